@@ -1,0 +1,42 @@
+-- The parts of a page table word. Assumes nothing.
+use mathlib.Core.Path.{_≡_, ap, _∙_, subst}
+use mathlib.Core.Logic.{_≢_}
+use Prim.Native.Nat.{ℕ, _+_, _-_, _*_, _/_, _%_, _^_, _≤_, _<_}
+use native.Mathlib.Nat.{mul-comm, mul-left-comm}
+use native.Mathlib.Omega.{arith}
+use lib.Arith.{digits-div}
+use lib.Pow.{pow-pos, pow-add}
+use Rattle.memory.specs.Geometry.{pageBytes, pageOf}
+use Rattle.memory.specs.Entry.{entry, accessible, rights}
+
+module _ (b p a r : ℕ) (wide : 3 ≤ b) (ha : a < 2) (hr : r < 8) where
+  eight : (c : ℕ) → 2 ^ (c + 3) ≡ 8 * 2 ^ c
+  eight c = pow-add 2 c 3 ∙ mul-comm (2 ^ c) 8
+
+  bytes-32 : (c : ℕ) × (pageBytes b ≡ 32 * 2 ^ c)
+  bytes-32 = (b - 3, ap (λ (x : ℕ). 4 * 2 ^ x) back ∙ ap (λ (x : ℕ). 4 * x) (eight (b - 3)) ∙ assoc)
+    where
+      back : b ≡ b - 3 + 3
+      back = omega arith
+
+      assoc : 4 * (8 * 2 ^ (b - 3)) ≡ 32 * 2 ^ (b - 3)
+      assoc = omega arith
+
+  -- the word is 32 times something, and its flags
+  flags : entry b p a r ≡ 32 * (p * 2 ^ (bytes-32 .0)) + (1 + 2 * a + 4 * r)
+  flags = omega (arith, ap (λ (x : ℕ). p * x) (bytes-32 .1), mul-left-comm p 32 (2 ^ (bytes-32 .0)))
+
+  pub entry-page : pageOf b (entry b p a r) ≡ p
+  entry-page = subst (λ (x : ℕ). x / pageBytes b ≡ p) shape (digits-div p (omega (arith, bytes-32 .1, pow-pos (bytes-32 .0))))
+    where
+      shape : p * pageBytes b + (1 + 2 * a + 4 * r) ≡ entry b p a r
+      shape = omega arith
+
+  pub entry-accessible : accessible (entry b p a r) ≡ a
+  entry-accessible = ap (λ (x : ℕ). x / 2 % 2) flags ∙ omega arith
+
+  pub entry-rights : rights (entry b p a r) ≡ r
+  entry-rights = ap (λ (x : ℕ). x / 4 % 8) flags ∙ omega arith
+
+  pub entry-present : entry b p a r ≢ 0
+  entry-present = omega arith

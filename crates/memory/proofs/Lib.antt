@@ -1,0 +1,7 @@
+pub mod Geometry
+pub mod Overwrite
+pub mod Entry
+pub mod Pages
+pub mod Format
+pub mod Tables
+pub mod Widths

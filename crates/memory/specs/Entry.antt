@@ -1,0 +1,33 @@
+-- A page table word and its parts. Assumes nothing.
+use mathlib.Core.Bool.{Bool, not}
+use Prim.Native.Nat.{ℕ, _+_, _*_, _/_, _%_}
+use lib.Dec.{eqb}
+use lib.Bits.{bitAnd}
+use Rattle.memory.specs.Geometry.{address}
+
+-- "page table, 0 or physical address + 1 + 2·accessible + 4·rights"
+abbrev pub entry : ℕ → ℕ → ℕ → ℕ → ℕ
+entry b page accessible rights = address b page + 1 + 2 * accessible + 4 * rights
+
+abbrev pub present : ℕ → Bool
+present w = not (eqb w 0)
+
+abbrev pub accessible : ℕ → ℕ
+accessible w = w / 2 % 2
+
+abbrev pub rights : ℕ → ℕ
+rights w = w / 4 % 8
+
+-- "rights (read 1, write 2, execute 4)"
+abbrev pub readRight : ℕ
+readRight = 1
+
+abbrev pub writeRight : ℕ
+writeRight = 2
+
+abbrev pub allRights : ℕ
+allRights = 7
+
+-- all of the rights r are among those of the word w
+abbrev pub holds : ℕ → ℕ → Bool
+holds r w = eqb (bitAnd r (rights w)) r

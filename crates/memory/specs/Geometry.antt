@@ -1,0 +1,55 @@
+-- The geometry, from one number: the index width b. Document 01 is b = 6. Assumes nothing.
+use Prim.Native.Nat.{ℕ, _+_, _-_, _*_, _/_, _%_, _^_}
+
+module _ (b : ℕ) where
+  -- "A page is 64 words (256 bytes)."
+  abbrev pub pageWords : ℕ
+  pageWords = 2 ^ b
+
+  abbrev pub pageBytes : ℕ
+  pageBytes = 4 * 2 ^ b
+
+  -- "A virtual address has 20 bits": the first number that is none
+  abbrev pub addressEnd : ℕ
+  addressEnd = 2 ^ (3 * b + 2)
+
+  -- "A physical address is 256k." Virtual page k starts at the same multiple.
+  abbrev pub address : ℕ → ℕ
+  address k = k * pageBytes
+
+  -- the page of an address; also of a table word or a directory word, whose flags stand below the page's size
+  abbrev pub pageOf : ℕ → ℕ
+  pageOf a = a / pageBytes
+
+  -- "top 6 index the directory, next 6 the table, low 8 the place in the page": the first two of the virtual page k, the place of the address a
+  abbrev pub directoryIndex : ℕ → ℕ
+  directoryIndex k = k / pageWords
+
+  abbrev pub tableIndex : ℕ → ℕ
+  tableIndex k = k % pageWords
+
+  abbrev pub place : ℕ → ℕ
+  place a = a % pageBytes
+
+  -- "N pages, 16 to 256"
+  abbrev pub mostPages : ℕ
+  mostPages = 4 * 2 ^ b
+
+  -- "T is the smallest number with 67T ≥ N−5": the quotient, rounded up (threesFor-enough and threesFor-least of proofs/Geometry.antt)
+  abbrev pub threesFor : ℕ → ℕ
+  threesFor n = (n - 5 + (2 ^ b + 2)) / (2 ^ b + 3)
+
+  -- "F = N−6−3T"
+  abbrev pub flatPages : ℕ → ℕ
+  flatPages n = n - 6 - 3 * threesFor n
+
+abbrev pub leastPages : ℕ
+leastPages = 16
+
+-- "A partition has at most 10 threes."
+abbrev pub mostThrees : ℕ
+mostThrees = 10
+
+-- "The tree is at most 8 below the root"
+abbrev pub mostDepth : ℕ
+mostDepth = 8

@@ -1,0 +1,9 @@
+pub mod Geometry
+pub mod Words
+pub mod Entry
+pub mod Format
+pub mod Partition
+pub mod Tree
+pub mod Uses
+pub mod Sound
+pub mod Counts

@@ -1,0 +1,5 @@
+pub mod Rows
+pub mod Lengths
+pub mod Marks
+pub mod Turns
+pub mod Releases

@@ -1,0 +1,51 @@
+-- What each call answers and leaves, and a run of calls. Assumes nothing.
+use mathlib.Core.List.{List, [], _∷_}
+use mathlib.Core.Bool.{cond}
+use Prim.Native.Nat.{ℕ, _+_, _*_}
+use lib.Dec.{eqb}
+use lib.ListN.{getD}
+use Rattle.memory.specs.Words.{word}
+use Rattle.memory.specs.Partition.{current, list, lent, above}
+use Rattle.rules.specs.Row.{Answer, reply, pass}
+use Rattle.rules.specs.Call.{Call, formatAll, createPartition, deletePartition, addVAddr, removeVAddr, pageCount, prepare, collect, mappedInChild, enter, leave, load, store}
+use Rattle.rules.specs.Conditions.{child, noThree}
+use Rattle.rules.specs.Refusals.{refusal}
+use Rattle.rules.specs.Effects.{threePlace, wordAt, effect}
+
+module _ (b : ℕ) where
+  -- "Success answers 0 unless said."
+  unfoldable pub result : List ℕ → Call → ℕ
+  result m formatAll = 0
+  result m (createPartition p d s t l) = 0
+  result m (deletePartition c) = 0
+  result m (addVAddr p c t r) = 0
+  -- "answers the caller's address"
+  result m (removeVAddr c t) = above b m (child b m c) t
+  -- "0 if the three are there, else 3"
+  result m (pageCount c t) = cond (noThree b m (child b m c) t) 3 0
+  result m (prepare c t p) = 0
+  -- "answers the first"
+  result m (collect c t) = word b m (list b m (child b m c)) (1 + 6 * threePlace b m (child b m c) t)
+  -- "the child's descriptor address, or 0 if not lent": shadow 1 word 1 is a child's descriptor and not a lent page
+  result m (mappedInChild p) = cond (eqb (lent b m (current b m) p) 1) 0 (lent b m (current b m) p)
+  result m (enter c) = 0
+  result m leave = 0
+  -- "answers the word"
+  result m (load a) = getD m (wordAt b m a) 0
+  result m (store a x) = 0
+
+  -- "each call in turn .. has its written effect and answer on the words so far, or its first refusal's number and no change"
+  unfoldable pub answer : List ℕ → Call → Answer
+  answer m c = reply (refusal b m c) (result m c)
+
+  unfoldable pub after : List ℕ → Call → List ℕ
+  after m c = pass (refusal b m c) (effect b m c) m
+
+  -- the memory after a list of calls, and the answers on the way
+  unfoldable pub run : List ℕ → List Call → List ℕ
+  run m [] = m
+  run m (c ∷ cs) = run (after m c) cs
+
+  unfoldable pub answers : List ℕ → List Call → List Answer
+  answers m [] = []
+  answers m (c ∷ cs) = answer m c ∷ answers (after m c) cs

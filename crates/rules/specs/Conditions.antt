@@ -1,0 +1,107 @@
+-- The conditions under which a refusal is given, each with the words of "When the kernel says no". Assumes nothing.
+use mathlib.Core.List.{List, [], _∷_, _++_}
+use mathlib.Core.Bool.{Bool, false, not, _&&_, _||_}
+use Prim.Native.Nat.{ℕ, _*_, _/_, _%_}
+use lib.Dec.{leb, ltb, eqb}
+use lib.ListN.{length}
+use Rattle.walk.specs.Finite.{any}
+use Rattle.memory.specs.Geometry.{pageWords, pageBytes, addressEnd, pageOf, leastPages, mostPages, mostThrees, mostDepth}
+use Rattle.memory.specs.Words.{word, page}
+use Rattle.memory.specs.Entry.{accessible, holds}
+use Rattle.memory.specs.Partition.{current, parent, threes, tableFor, mapping, lent, inHand}
+use Rattle.soundness.specs.Test.{soundTest}
+use Rattle.rules.specs.Refusal.{CHAIN, HAND, RIGHTS}
+use Rattle.rules.specs.Row.{Check, _when_}
+use Rattle.rules.specs.Moves.{depth}
+
+-- 4: "two of the five equal"
+abbrev pub twice : List ℕ → Bool
+twice [] = false
+twice (x ∷ xs) = any (eqb x) xs || twice xs
+
+module _ (b : ℕ) where
+  -- 1: "memory not sound" (soundTest decides Sound: the crate soundness, Whole.antt, sound?)
+  abbrev pub damaged : List ℕ → Bool
+  damaged m = not (soundTest b m)
+
+  -- 2: "length isn't 64N with N 16 to 256"
+  abbrev pub pagesIn : List ℕ → ℕ
+  pagesIn m = length m / pageWords b
+
+  abbrev pub wrongSize : List ℕ → Bool
+  wrongSize m = not (eqb (length m) (pagesIn m * pageWords b)) || ltb (pagesIn m) leastPages || ltb (mostPages b) (pagesIn m)
+
+  -- 3: "≥ 2^20, on page 0, or not a multiple of 256 (load, store: of 4)"
+  abbrev pub badAddress : ℕ → ℕ → Bool
+  badAddress unit a = leb (addressEnd b) a || ltb a (pageBytes b) || not (eqb (a % unit) 0)
+
+  abbrev pub badPage : ℕ → Bool
+  badPage = badAddress (pageBytes b)
+
+  -- ---- of the memory m, whose current partition is the caller
+
+  -- 5: "the caller's shadow 1 word there isn't 1"
+  abbrev pub noChild : List ℕ → ℕ → Bool
+  noChild m c = not (eqb (lent b m (current b m) c) 1)
+
+  -- the child that stands at c
+  abbrev pub child : List ℕ → ℕ → ℕ
+  child m c = pageOf b (mapping b m (current b m) c)
+
+  -- 6: "right not held"
+  abbrev pub lacks : ℕ → List ℕ → ℕ → Bool
+  lacks r m v = not (holds r (mapping b m (current b m) v))
+
+  -- 7: "page not in the caller's hand"
+  abbrev pub notInHand : List ℕ → ℕ → Bool
+  notInHand m v = not (inHand b m (current b m) v)
+
+  -- 8: "the child has no three for target", the child d and the target v
+  abbrev pub noThree : List ℕ → ℕ → ℕ → Bool
+  noThree m d v = eqb (tableFor b m d v) 0
+
+  -- 9: "target mapped", and 15: "no mapping there"
+  abbrev pub unmapped : List ℕ → ℕ → ℕ → Bool
+  unmapped m d v = eqb (mapping b m d v) 0
+
+  abbrev pub mapped : List ℕ → ℕ → ℕ → Bool
+  mapped m d v = not (unmapped m d v)
+
+  -- 10: "three absent and 10 threes exist"
+  abbrev pub listFull : List ℕ → ℕ → ℕ → Bool
+  listFull m d v = noThree m d v && leb mostThrees (threes b m d)
+
+  -- 12: "page table has a mapping"
+  abbrev pub anyMapping : List ℕ → ℕ → ℕ → Bool
+  anyMapping m d v = any (λ w. not (eqb w 0)) (page b m (pageOf b (tableFor b m d v)))
+
+  -- 13: "caller is 8 below the root"
+  abbrev pub tooDeep : List ℕ → Bool
+  tooDeep m = leb mostDepth (depth b mostDepth m (current b m))
+
+  -- 14: "root leaves"
+  abbrev pub atRoot : List ℕ → Bool
+  atRoot m = eqb (parent b m (current b m)) 0
+
+  -- 16: "mapped, not accessible"
+  abbrev pub inaccessible : List ℕ → ℕ → Bool
+  inaccessible m v = eqb (accessible (mapping b m (current b m) v)) 0
+
+  -- ---- the chain
+
+  -- "word 0 of a page holds the next page's address"
+  abbrev pub link : List ℕ → ℕ → ℕ
+  link m v = word b m (pageOf b (mapping b m (current b m) v)) 0
+
+  -- "For each page in turn: 11, 7, 6": v is the page that a link, or the argument, leads to, and seen are those before it. 11: "link is an address
+  -- that 3 would refuse (0 too) or repeats a page"; 6: "read and write for prepare"
+  abbrev pub inChain : List ℕ → List ℕ → ℕ → List Check
+  inChain m seen v = CHAIN when (badPage v || any (eqb v) seen) ∷ HAND when notInHand m v ∷ RIGHTS when lacks 3 m v ∷ []
+
+  -- "then 11 if the third's word 0 isn't 0"
+  abbrev pub chain : List ℕ → ℕ → List Check
+  chain m p =
+      inChain m [] p
+      ++ inChain m (p ∷ []) (link m p)
+      ++ inChain m (p ∷ link m p ∷ []) (link m (link m p))
+      ++ (CHAIN when not (eqb (link m (link m (link m p))) 0) ∷ [])

@@ -1,0 +1,135 @@
+-- The table's third column: what each call that is not refused leaves in memory. d is the caller, k the child's descriptor page. Assumes nothing.
+use mathlib.Core.List.{List, [], _∷_, _++_}
+use mathlib.Core.Bool.{cond}
+use Prim.Native.Nat.{ℕ, zero, suc, _+_, _-_, _*_, _/_}
+use lib.Dec.{eqb}
+use lib.ListN.{getD, set, take, drop, replicate}
+use Rattle.memory.specs.Geometry.{pageWords, address, pageOf, directoryIndex, place}
+use Rattle.memory.specs.Words.{index, page, word, put, overwrite, fill}
+use Rattle.memory.specs.Entry.{entry, accessible}
+use Rattle.memory.specs.Format.{format}
+use Rattle.memory.specs.Partition.{current, directory, shadow1, shadow2, list, parent, threes, tableFor, mapping, lent, above, setMapping, setLent, setAbove}
+use Rattle.rules.specs.Call.{Call, formatAll, createPartition, deletePartition, addVAddr, removeVAddr, pageCount, prepare, collect, mappedInChild, enter, leave, load, store}
+use Rattle.rules.specs.Moves.{takeAll, returnAll, returnPage, pairs}
+use Rattle.rules.specs.Conditions.{pagesIn, child, link}
+
+-- every second word of a list, from the first
+abbrev pub evens : List ℕ → List ℕ
+evens [] = []
+evens (v ∷ []) = v ∷ []
+evens (v ∷ a ∷ ws) = v ∷ evens ws
+
+-- "later list pairs move down in order": the words ws of a list page without the three at place j, the words that become free 0
+unfoldable pub dropThree : ℕ → List ℕ → List ℕ
+dropThree j ws =
+    set (take (1 + 6 * j) ws ++ drop (7 + 6 * j) (take (getD ws 0 0) ws) ++ replicate 6 0 ++ drop (getD ws 0 0) ws) 0 (getD ws 0 0 - 6)
+
+module _ (b : ℕ) where
+  -- 1: "takes all; fills descriptor; list word 0 is 1; caller's shadow 1 at the first is 1". The five are p, .., l; directory and shadows stay wiped.
+  unfoldable pub create : List ℕ → ℕ → List ℕ → ℕ → ℕ → List ℕ
+  create m d five p l =
+      let m₁ = takeAll b m d five in
+      let m₂ = fill b m₁ (pageOf b (mapping b m d p)) (pairs b m d five ++ (0 ∷ address b d ∷ [])) in
+      let m₃ = put b m₂ (pageOf b (mapping b m d l)) 0 1 in
+      setLent b m₃ d p 1
+
+  -- the words of d's list, from 1 up to the first free one
+  abbrev pub listed : List ℕ → ℕ → List ℕ
+  listed m d = take (word b m (list b m d) 0 - 1) (drop 1 (page b m (list b m d)))
+
+  -- the caller's addresses of the child's kernel pages: its own five and the pairs of its list
+  abbrev pub kernelAddresses : List ℕ → ℕ → List ℕ
+  kernelAddresses m k = evens (take 10 (page b m k)) ++ evens (listed m k)
+
+  -- a lent page is the caller's again; "every lent page that is inaccessible" is returned, "other lent pages keep their words"
+  abbrev pub release : List ℕ → ℕ → ℕ → List ℕ
+  release m d v =
+      let m₁ = setLent b m d v 0 in
+      cond (eqb (accessible (mapping b m d v)) 0) (returnPage b m₁ d v) m₁
+
+  -- all pages lent to the child at c, among n virtual pages from page i on
+  unfoldable pub releaseAll : ℕ → ℕ → List ℕ → ℕ → ℕ → List ℕ
+  releaseAll zero i m d c = m
+  releaseAll (suc n) i m d c =
+      releaseAll n (suc i) (cond (eqb (lent b m d (address b i)) c) (release m d (address b i)) m) d c
+
+  -- 2: "clears shadow 1 of descriptor and all pages lent to it; returns its kernel pages and every lent page that is inaccessible". The child's
+  -- words are read before they are wiped. The kernel pages of partitions below the child are lent pages that are inaccessible.
+  unfoldable pub delete : List ℕ → ℕ → ℕ → List ℕ
+  delete m d c =
+      let kernel = kernelAddresses m (pageOf b (mapping b m d c)) in
+      let m₁ = releaseAll (pageWords b * pageWords b) 0 m d c in
+      let m₂ = setLent b m₁ d c 0 in
+      returnAll b m₂ d kernel
+
+  -- 3: "maps page at target in the child, accessible, with rights; child's shadow 2 there is page; caller's shadow 1 at page is child"
+  unfoldable pub add : List ℕ → ℕ → ℕ → ℕ → ℕ → ℕ → List ℕ
+  add m d p c t r =
+      let k = pageOf b (mapping b m d c) in
+      let m₁ = setMapping b m k t (entry b (pageOf b (mapping b m d p)) 1 r) in
+      let m₂ = setAbove b m₁ k t p in
+      setLent b m₂ d p c
+
+  -- 4: "undoes 3"
+  unfoldable pub remove : List ℕ → ℕ → ℕ → ℕ → List ℕ
+  remove m d k t =
+      let v = above b m k t in
+      let m₁ = setMapping b m k t 0 in
+      let m₂ = setAbove b m₁ k t 0 in
+      setLent b m₂ d v 0
+
+  -- 6: "takes three chained pages, enters them, appends to list": page table, shadow 1 table, shadow 2 table
+  unfoldable pub prepareThree : List ℕ → ℕ → ℕ → ℕ → ℕ → ℕ → ℕ → List ℕ
+  prepareThree m d k t p₁ p₂ p₃ =
+      let i = directoryIndex b (pageOf b t) in
+      let free = word b m (list b m k) 0 in
+      let m₁ = takeAll b m d (p₁ ∷ p₂ ∷ p₃ ∷ []) in
+      let m₂ = put b m₁ (directory b m k) i (address b (pageOf b (mapping b m d p₁)) + 1) in
+      let m₃ = put b m₂ (shadow1 b m k) i (address b (pageOf b (mapping b m d p₂)) + 1) in
+      let m₄ = put b m₃ (shadow2 b m k) i (address b (pageOf b (mapping b m d p₃)) + 1) in
+      let m₅ = overwrite m₄ (index b (list b m k) free) (pairs b m d (p₁ ∷ p₂ ∷ p₃ ∷ [])) in
+      put b m₅ (list b m k) 0 (free + 6)
+
+  -- the first of n places, from place j on, of the list page l whose three has its page table at physical address a
+  unfoldable pub placeOf : ℕ → ℕ → List ℕ → ℕ → ℕ → ℕ
+  placeOf zero j m l a = j
+  placeOf (suc n) j m l a = let later = placeOf n (suc j) m l a in cond (eqb (word b m l (2 + 6 * j)) a) j later
+
+  -- the place in k's list of the three for target t
+  abbrev pub threePlace : List ℕ → ℕ → ℕ → ℕ
+  threePlace m k t = placeOf (threes b m k) 0 m (list b m k) (tableFor b m k t - 1)
+
+  -- 7: "drops the three, later list pairs move down in order, returns the pages chained again"
+  unfoldable pub collectThree : List ℕ → ℕ → ℕ → ℕ → List ℕ
+  collectThree m d k t =
+      let i = directoryIndex b (pageOf b t) in
+      let j = threePlace m k t in
+      let l = list b m k in
+      let v₁ = word b m l (1 + 6 * j) in
+      let v₂ = word b m l (3 + 6 * j) in
+      let v₃ = word b m l (5 + 6 * j) in
+      let m₁ = put b (put b (put b m (directory b m k) i 0) (shadow1 b m k) i 0) (shadow2 b m k) i 0 in
+      let m₂ = fill b m₁ l (dropThree j (page b m l)) in
+      let m₃ = returnAll b m₂ d (v₁ ∷ v₂ ∷ v₃ ∷ []) in
+      put b (put b m₃ (pageOf b (mapping b m d v₁)) 0 v₂) (pageOf b (mapping b m d v₂)) 0 v₃
+
+  -- where the word of a load or a store stands
+  abbrev pub wordAt : List ℕ → ℕ → ℕ
+  wordAt m a = index b (pageOf b (mapping b m (current b m) a)) (place b a / 4)
+
+  unfoldable pub effect : List ℕ → Call → List ℕ
+  effect m formatAll = format b (pagesIn b m)
+  effect m (createPartition p d s t l) = create m (current b m) (p ∷ d ∷ s ∷ t ∷ l ∷ []) p l
+  effect m (deletePartition c) = delete m (current b m) c
+  effect m (addVAddr p c t r) = add m (current b m) p c t r
+  effect m (removeVAddr c t) = remove m (current b m) (child b m c) t
+  effect m (pageCount c t) = m
+  effect m (prepare c t p) = prepareThree m (current b m) (child b m c) t p (link b m p) (link b m (link b m p))
+  effect m (collect c t) = collectThree m (current b m) (child b m c) t
+  effect m (mappedInChild p) = m
+  -- 9: "current is child"; 10: "current is parent"
+  effect m (enter c) = put b m 0 4 (address b (child b m c))
+  effect m leave = put b m 0 4 (address b (parent b m (current b m)))
+  effect m (load a) = m
+  -- 12: "writes it"
+  effect m (store a x) = set m (wordAt m a) x

@@ -1,0 +1,8 @@
+pub mod Refusal
+pub mod Row
+pub mod Call
+pub mod Moves
+pub mod Conditions
+pub mod Refusals
+pub mod Effects
+pub mod Calls

@@ -1,0 +1,6 @@
+pub mod Places
+pub mod Agree
+pub mod Trees
+pub mod Used
+pub mod Whole
+pub mod Counts

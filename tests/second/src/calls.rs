@@ -1,0 +1,333 @@
+//! Format and the twelve calls. A refusal is decided before any word changes.
+
+use crate::geometry::*;
+use crate::memory::*;
+use crate::refusal::*;
+use crate::sound::sound;
+
+/// The answer, or the number of the first refusal.
+pub type Answer = Result<u32, u32>;
+
+/// How many arguments each call has, by its number from 1.
+pub const ARGUMENTS: [usize; 12] = [5, 1, 4, 2, 2, 3, 2, 1, 1, 0, 1, 2];
+
+/// Performs a call by its number, 0 for format; none when the number or the argument count is wrong.
+pub fn call(mem: &mut [u32], number: u32, arguments: &[u32]) -> Option<Answer> {
+    Some(match (number, arguments) {
+        (0, []) => format(mem),
+        (1, &[a, b, c, d, e]) => create_partition(mem, [a, b, c, d, e]),
+        (2, &[child]) => delete_partition(mem, child),
+        (3, &[page, child, target, rights]) => add_vaddr(mem, page, child, target, rights),
+        (4, &[child, target]) => remove_vaddr(mem, child, target),
+        (5, &[child, target]) => page_count(mem, child, target),
+        (6, &[child, target, first]) => prepare(mem, child, target, first),
+        (7, &[child, target]) => collect(mem, child, target),
+        (8, &[page]) => mapped_in_child(mem, page),
+        (9, &[child]) => enter(mem, child),
+        (10, []) => leave(mem),
+        (11, &[address]) => load(mem, address),
+        (12, &[address, value]) => store(mem, address, value),
+        _ => return None,
+    })
+}
+
+// Checks.
+
+fn require(holds: bool, refusal: u32) -> Result<(), u32> {
+    if holds {
+        Ok(())
+    } else {
+        Err(refusal)
+    }
+}
+
+/// The current partition of sound memory.
+fn caller_of(mem: &[u32]) -> Result<Partition, u32> {
+    sound(mem).map_err(|_| DAMAGED)?;
+    Ok(Partition::current(mem))
+}
+
+fn good_address(address: u32, multiple: u32) -> bool {
+    (PAGE_BYTES..VIRTUAL_END).contains(&address) && address % multiple == 0
+}
+
+fn page_addresses<const K: usize>(addresses: [u32; K]) -> Result<[VPage; K], u32> {
+    require(addresses.iter().all(|&a| good_address(a, PAGE_BYTES)), ADDRESS)?;
+    Ok(addresses.map(VPage::of))
+}
+
+/// The child whose descriptor the caller has at this address.
+fn child_at(mem: &[u32], caller: &Partition, at: VPage) -> Result<Partition, u32> {
+    require(caller.shadow1(mem, at) == IS_CHILD, CHILD)?;
+    let mapping = caller.mapping(mem, at).ok_or(CHILD)?;
+    Ok(Partition::at(mem, mapping.page))
+}
+
+fn mapping_in_hand(mem: &[u32], partition: &Partition, v: VPage) -> Result<Mapping, u32> {
+    require(partition.in_hand(mem, v), HAND)?;
+    partition.mapping(mem, v).ok_or(HAND)
+}
+
+fn holds(mapping: Mapping, rights: u32) -> bool {
+    rights & !mapping.rights == 0
+}
+
+fn depth_of(mem: &[u32], partition: &Partition) -> usize {
+    let parents = std::iter::successors(Some(partition.descriptor), |&d| parent_of(mem, d));
+    parents.take(MOST_DEPTH + 1).count() - 1
+}
+
+fn parent_of(mem: &[u32], descriptor: PPage) -> Option<PPage> {
+    let address = word(mem, descriptor, PARENT);
+    (address != 0).then_some(PPage::of(address))
+}
+
+// Effects that several calls share.
+
+/// Sets or clears the accessible bit in the caller and each ancestor, following shadow 2.
+fn set_accessible(mem: &mut [u32], caller: &Partition, at: VPage, accessible: bool) {
+    let (mut own, mut v) = (*caller, at);
+    for _ in 0..=MOST_DEPTH {
+        if let Some(mapping) = own.mapping(mem, v) {
+            set_table_word(mem, own.directory, v, Mapping { accessible, ..mapping }.encode());
+        }
+        let Some(parent) = parent_of(mem, own.descriptor) else { break };
+        v = VPage::of(own.shadow2(mem, v));
+        own = Partition::at(mem, parent);
+    }
+}
+
+fn wipe(mem: &mut [u32], caller: &Partition, at: VPage) {
+    if let Some(mapping) = caller.mapping(mem, at) {
+        page_mut(mem, mapping.page).fill(0);
+    }
+}
+
+fn take(mem: &mut [u32], caller: &Partition, at: VPage) {
+    wipe(mem, caller, at);
+    set_accessible(mem, caller, at, false);
+}
+
+fn give_back(mem: &mut [u32], caller: &Partition, at: VPage) {
+    wipe(mem, caller, at);
+    set_accessible(mem, caller, at, true);
+}
+
+// Format and the calls, by number.
+
+pub fn format(mem: &mut [u32]) -> Answer {
+    let sizes = Sizes::of_length(mem.len()).ok_or(SIZE)?;
+    mem.fill(0);
+    let header = [sizes.pages, sizes.threes, ROOT.address(), sizes.first_flat().address(), ROOT.address()];
+    page_mut(mem, HEADER)[..5].copy_from_slice(&header);
+    for pair in 0..5 {
+        set_word(mem, ROOT, 2 * pair + 1, PPage(1 + pair as u32).address());
+    }
+    let root = Partition::at(mem, ROOT);
+    set_word(mem, root.list, 0, 1 + 6 * sizes.threes);
+    for k in 0..3 * sizes.threes {
+        let page = PPage(FIRST_THREE + k);
+        set_word(mem, root.roots()[k as usize % 3], k as usize / 3, page.address() + PRESENT);
+        set_word(mem, root.list, 2 + 2 * k as usize, page.address());
+    }
+    for v in 1..=sizes.free {
+        let page = PPage(sizes.first_flat().0 + v - 1);
+        let mapping = Mapping { page, accessible: true, rights: ALL_RIGHTS };
+        set_table_word(mem, root.directory, VPage(v), mapping.encode());
+    }
+    Ok(0)
+}
+
+pub fn create_partition(mem: &mut [u32], five: [u32; 5]) -> Answer {
+    let caller = caller_of(mem)?;
+    let group = page_addresses(five)?;
+    require((0..5).all(|i| !group[..i].contains(&group[i])), TWICE)?;
+    let mut mappings = Vec::new();
+    for v in group {
+        mappings.push(mapping_in_hand(mem, &caller, v)?);
+    }
+    require(mappings.iter().all(|&m| holds(m, WRITE)), RIGHTS)?;
+    require(depth_of(mem, &caller) < MOST_DEPTH, DEPTH)?;
+    for v in group {
+        take(mem, &caller, v);
+    }
+    let (descriptor, list) = (mappings[0].page, mappings[4].page);
+    for (k, (v, mapping)) in group.iter().zip(&mappings).enumerate() {
+        set_word(mem, descriptor, 2 * k, v.address());
+        set_word(mem, descriptor, 2 * k + 1, mapping.page.address());
+    }
+    set_word(mem, descriptor, PARENT, caller.descriptor.address());
+    set_word(mem, list, 0, 1);
+    set_table_word(mem, caller.shadow1, group[0], IS_CHILD);
+    Ok(0)
+}
+
+pub fn delete_partition(mem: &mut [u32], child: u32) -> Answer {
+    let caller = caller_of(mem)?;
+    let [at] = page_addresses([child])?;
+    // All that is read of the child is read before its pages are wiped.
+    let kernel = child_at(mem, &caller, at)?.kernel_pairs(mem);
+    let lent: Vec<_> = caller.mappings(mem).filter(|&(v, _)| caller.shadow1(mem, v) == at.address()).collect();
+    set_table_word(mem, caller.shadow1, at, 0);
+    for &(v, mapping) in &lent {
+        set_table_word(mem, caller.shadow1, v, 0);
+        if !mapping.accessible {
+            give_back(mem, &caller, v);
+        }
+    }
+    for (v, _) in kernel {
+        give_back(mem, &caller, v);
+    }
+    Ok(0)
+}
+
+pub fn add_vaddr(mem: &mut [u32], page: u32, child: u32, target: u32, rights: u32) -> Answer {
+    let caller = caller_of(mem)?;
+    let [page, at, target] = page_addresses([page, child, target])?;
+    require(rights <= ALL_RIGHTS, RIGHTS)?;
+    let child = child_at(mem, &caller, at)?;
+    let own = mapping_in_hand(mem, &caller, page)?;
+    require(holds(own, rights), RIGHTS)?;
+    require(child.has_three(mem, target.directory_index()), TABLE)?;
+    require(child.mapping(mem, target).is_none(), TAKEN)?;
+    set_table_word(mem, child.directory, target, Mapping { rights, ..own }.encode());
+    set_table_word(mem, child.shadow2, target, page.address());
+    set_table_word(mem, caller.shadow1, page, at.address());
+    Ok(0)
+}
+
+pub fn remove_vaddr(mem: &mut [u32], child: u32, target: u32) -> Answer {
+    let caller = caller_of(mem)?;
+    let [at, target] = page_addresses([child, target])?;
+    let child = child_at(mem, &caller, at)?;
+    require(child.has_three(mem, target.directory_index()), TABLE)?;
+    require(child.mapping(mem, target).is_some(), UNMAPPED)?;
+    require(child.in_hand(mem, target), HAND)?;
+    let lender = child.shadow2(mem, target);
+    set_table_word(mem, child.directory, target, 0);
+    set_table_word(mem, child.shadow2, target, 0);
+    set_table_word(mem, caller.shadow1, VPage::of(lender), 0);
+    Ok(lender)
+}
+
+pub fn page_count(mem: &[u32], child: u32, target: u32) -> Answer {
+    let caller = caller_of(mem)?;
+    let [at, target] = page_addresses([child, target])?;
+    let child = child_at(mem, &caller, at)?;
+    if child.has_three(mem, target.directory_index()) {
+        return Ok(0);
+    }
+    require(child.three_count(mem) < MOST_THREES, LIST)?;
+    Ok(3)
+}
+
+pub fn prepare(mem: &mut [u32], child: u32, target: u32, first: u32) -> Answer {
+    let caller = caller_of(mem)?;
+    let [at, target, first] = page_addresses([child, target, first])?;
+    let child = child_at(mem, &caller, at)?;
+    let index = target.directory_index();
+    require(!child.has_three(mem, index), TAKEN)?;
+    require(child.three_count(mem) < MOST_THREES, LIST)?;
+    let chain = follow_chain(mem, &caller, first.address())?;
+    let used = word(mem, child.list, 0) as usize;
+    for (kind, (v, page)) in chain.into_iter().enumerate() {
+        take(mem, &caller, v);
+        set_word(mem, child.roots()[kind], index, page.address() + PRESENT);
+        set_word(mem, child.list, used + 2 * kind, v.address());
+        set_word(mem, child.list, used + 2 * kind + 1, page.address());
+    }
+    set_word(mem, child.list, 0, used as u32 + 6);
+    Ok(0)
+}
+
+/// The three chained pages. A page's own link is read only after the page itself has passed.
+fn follow_chain(mem: &[u32], caller: &Partition, first: u32) -> Result<Vec<(VPage, PPage)>, u32> {
+    let mut chain: Vec<(VPage, PPage)> = Vec::new();
+    let mut link = first;
+    for _ in 0..3 {
+        let v = VPage::of(link);
+        let fresh = chain.iter().all(|earlier| earlier.0 != v);
+        require(good_address(link, PAGE_BYTES) && fresh, CHAIN)?;
+        let mapping = mapping_in_hand(mem, caller, v)?;
+        require(holds(mapping, READ + WRITE), RIGHTS)?;
+        link = word(mem, mapping.page, 0);
+        chain.push((v, mapping.page));
+    }
+    require(link == 0, CHAIN)?;
+    Ok(chain)
+}
+
+pub fn collect(mem: &mut [u32], child: u32, target: u32) -> Answer {
+    let caller = caller_of(mem)?;
+    let [at, target] = page_addresses([child, target])?;
+    let child = child_at(mem, &caller, at)?;
+    let index = target.directory_index();
+    require(child.has_three(mem, index), TABLE)?;
+    let empty = (0..PAGE_WORDS).all(|j| child.mapping(mem, VPage::at(index, j)).is_none());
+    require(empty, FULL_TABLE)?;
+    let table = PPage::of(word(mem, child.directory, index));
+    let pairs = child.list_pairs(mem);
+    let place = pairs.iter().step_by(3).position(|pair| pair.1 == table).ok_or(DAMAGED)?;
+    let three = [0, 1, 2].map(|kind| pairs[3 * place + kind]);
+    for root in child.roots() {
+        set_word(mem, root, index, 0);
+    }
+    // Later pairs move down over the dropped six words; the last six become 0.
+    let used = 1 + 2 * pairs.len();
+    let list = page_mut(mem, child.list);
+    list.copy_within(1 + 6 * (place + 1)..used, 1 + 6 * place);
+    list[used - 6..used].fill(0);
+    list[0] = used as u32 - 6;
+    for (v, _) in three {
+        give_back(mem, &caller, v);
+    }
+    set_word(mem, three[0].1, 0, three[1].0.address());
+    set_word(mem, three[1].1, 0, three[2].0.address());
+    Ok(three[0].0.address())
+}
+
+pub fn mapped_in_child(mem: &[u32], page: u32) -> Answer {
+    let caller = caller_of(mem)?;
+    let [page] = page_addresses([page])?;
+    require(caller.mapping(mem, page).is_some(), UNMAPPED)?;
+    match caller.shadow1(mem, page) {
+        IS_CHILD => Ok(0),
+        lent_to => Ok(lent_to),
+    }
+}
+
+pub fn enter(mem: &mut [u32], child: u32) -> Answer {
+    let caller = caller_of(mem)?;
+    let [at] = page_addresses([child])?;
+    let child = child_at(mem, &caller, at)?;
+    set_word(mem, HEADER, CURRENT, child.descriptor.address());
+    Ok(0)
+}
+
+pub fn leave(mem: &mut [u32]) -> Answer {
+    let caller = caller_of(mem)?;
+    let parent = parent_of(mem, caller.descriptor).ok_or(crate::refusal::ROOT)?;
+    set_word(mem, HEADER, CURRENT, parent.address());
+    Ok(0)
+}
+
+/// The walk of load and store: the page and the word's index in it.
+fn walk(mem: &[u32], address: u32, right: u32) -> Result<(PPage, usize), u32> {
+    let caller = caller_of(mem)?;
+    require(good_address(address, 4), ADDRESS)?;
+    let mapping = caller.mapping(mem, VPage::of(address)).ok_or(UNMAPPED)?;
+    require(mapping.accessible, KERNEL)?;
+    require(holds(mapping, right), RIGHTS)?;
+    Ok((mapping.page, (address % PAGE_BYTES / 4) as usize))
+}
+
+pub fn load(mem: &[u32], address: u32) -> Answer {
+    let (page, index) = walk(mem, address, READ)?;
+    Ok(word(mem, page, index))
+}
+
+pub fn store(mem: &mut [u32], address: u32, value: u32) -> Answer {
+    let (page, index) = walk(mem, address, WRITE)?;
+    set_word(mem, page, index, value);
+    Ok(0)
+}

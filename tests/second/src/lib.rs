@@ -1,0 +1,13 @@
+//! A second, independent kernel for comparison. It is written from the paper's rules and not proved.
+
+pub mod calls;
+pub mod damage;
+pub mod geometry;
+pub mod make;
+pub mod memory;
+pub mod random;
+pub mod record;
+pub mod refusal;
+pub mod replay;
+pub mod sound;
+pub mod tree;

@@ -1,0 +1,153 @@
+//! Reading and writing the words of pages, partitions and tables.
+//! Every access is bounded: a word outside the memory reads as 0 and is never written.
+
+use crate::geometry::*;
+
+/// Header word that holds the current partition's descriptor address.
+pub const CURRENT: usize = 4;
+/// Descriptor word that holds the parent's descriptor address.
+pub const PARENT: usize = 11;
+pub const ROOT: PPage = PPage(1);
+pub const HEADER: PPage = PPage(0);
+/// Shadow 1 word of a page that is itself a child's descriptor.
+pub const IS_CHILD: u32 = 1;
+/// Bits of directory and page table words.
+pub const PRESENT: u32 = 1;
+pub const ACCESSIBLE: u32 = 2;
+
+pub fn word(mem: &[u32], page: PPage, index: usize) -> u32 {
+    mem.get(page.0 as usize * PAGE_WORDS + index).copied().unwrap_or(0)
+}
+
+pub fn set_word(mem: &mut [u32], page: PPage, index: usize, value: u32) {
+    if let Some(word) = mem.get_mut(page.0 as usize * PAGE_WORDS + index) {
+        *word = value;
+    }
+}
+
+/// The page as its own part of the memory.
+pub fn page_mut(mem: &mut [u32], page: PPage) -> &mut [u32] {
+    let start = page.0 as usize * PAGE_WORDS;
+    mem.get_mut(start..start + PAGE_WORDS).unwrap_or(&mut [])
+}
+
+/// The five pages of one partition.
+#[derive(Clone, Copy, PartialEq, Eq, Debug)]
+pub struct Partition {
+    pub descriptor: PPage,
+    pub directory: PPage,
+    pub shadow1: PPage,
+    pub shadow2: PPage,
+    pub list: PPage,
+}
+
+impl Partition {
+    /// The root's pages are 1 to 5; a child's are those its descriptor names.
+    pub fn at(mem: &[u32], descriptor: PPage) -> Partition {
+        let named = |pair: usize| match descriptor {
+            ROOT => PPage(1 + pair as u32),
+            _ => PPage::of(word(mem, descriptor, 2 * pair + 1)),
+        };
+        Partition { descriptor, directory: named(1), shadow1: named(2), shadow2: named(3), list: named(4) }
+    }
+
+    pub fn current(mem: &[u32]) -> Partition {
+        Partition::at(mem, PPage::of(word(mem, HEADER, CURRENT)))
+    }
+
+    /// The directory and the two shadow roots.
+    pub fn roots(&self) -> [PPage; 3] {
+        [self.directory, self.shadow1, self.shadow2]
+    }
+
+    pub fn has_three(&self, mem: &[u32], index: usize) -> bool {
+        word(mem, self.directory, index) != 0
+    }
+
+    pub fn mapping(&self, mem: &[u32], v: VPage) -> Option<Mapping> {
+        Mapping::decode(table_word(mem, self.directory, v))
+    }
+
+    pub fn shadow1(&self, mem: &[u32], v: VPage) -> u32 {
+        table_word(mem, self.shadow1, v)
+    }
+
+    pub fn shadow2(&self, mem: &[u32], v: VPage) -> u32 {
+        table_word(mem, self.shadow2, v)
+    }
+
+    /// Every virtual page that has tables, in order.
+    pub fn tabled<'a>(&self, mem: &'a [u32]) -> impl Iterator<Item = VPage> + 'a {
+        let own = *self;
+        let indices = (0..PAGE_WORDS).filter(move |&i| own.has_three(mem, i));
+        indices.flat_map(|i| (0..PAGE_WORDS).map(move |j| VPage::at(i, j)))
+    }
+
+    /// Every present mapping, in order.
+    pub fn mappings<'a>(&self, mem: &'a [u32]) -> impl Iterator<Item = (VPage, Mapping)> + 'a {
+        let own = *self;
+        self.tabled(mem).filter_map(move |v| own.mapping(mem, v).map(|m| (v, m)))
+    }
+
+    /// Present, accessible, and neither lent nor a child's descriptor.
+    pub fn in_hand(&self, mem: &[u32], v: VPage) -> bool {
+        self.mapping(mem, v).is_some_and(|m| m.accessible) && self.shadow1(mem, v) == 0
+    }
+
+    pub fn three_count(&self, mem: &[u32]) -> usize {
+        (word(mem, self.list, 0) as usize / 6).min(MOST_THREES)
+    }
+
+    /// The pairs (virtual in the parent, physical) of the list.
+    pub fn list_pairs(&self, mem: &[u32]) -> Vec<(VPage, PPage)> {
+        (0..3 * self.three_count(mem)).map(|k| pair(mem, self.list, 1 + 2 * k)).collect()
+    }
+
+    /// All kernel pages: the descriptor's five pairs, then the list's.
+    pub fn kernel_pairs(&self, mem: &[u32]) -> Vec<(VPage, PPage)> {
+        let mut pairs: Vec<_> = (0..5).map(|k| pair(mem, self.descriptor, 2 * k)).collect();
+        pairs.extend(self.list_pairs(mem));
+        pairs
+    }
+}
+
+fn pair(mem: &[u32], page: PPage, index: usize) -> (VPage, PPage) {
+    (VPage::of(word(mem, page, index)), PPage::of(word(mem, page, index + 1)))
+}
+
+/// A present page table word.
+#[derive(Clone, Copy, PartialEq, Eq, Debug)]
+pub struct Mapping {
+    pub page: PPage,
+    pub accessible: bool,
+    pub rights: u32,
+}
+
+impl Mapping {
+    pub fn decode(word: u32) -> Option<Mapping> {
+        let mapping =
+            Mapping { page: PPage::of(word), accessible: word & ACCESSIBLE != 0, rights: word >> 2 & ALL_RIGHTS };
+        (word & PRESENT != 0).then_some(mapping)
+    }
+
+    pub fn encode(self) -> u32 {
+        self.page.address() + PRESENT + ACCESSIBLE * u32::from(self.accessible) + 4 * self.rights
+    }
+}
+
+/// The table that a directory or shadow root has for a virtual page.
+fn table(mem: &[u32], root: PPage, v: VPage) -> Option<PPage> {
+    let entry = word(mem, root, v.directory_index());
+    (entry != 0).then_some(PPage::of(entry))
+}
+
+/// A word in an absent table counts as 0.
+pub fn table_word(mem: &[u32], root: PPage, v: VPage) -> u32 {
+    table(mem, root, v).map_or(0, |t| word(mem, t, v.table_index()))
+}
+
+pub fn set_table_word(mem: &mut [u32], root: PPage, v: VPage, value: u32) {
+    if let Some(t) = table(mem, root, v) {
+        set_word(mem, t, v.table_index(), value);
+    }
+}

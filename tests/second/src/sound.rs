@@ -1,0 +1,240 @@
+//! When memory is sound: nine sentences, judged in order over every partition of the tree.
+
+use crate::geometry::*;
+use crate::memory::*;
+use crate::tree::{tree, Node};
+
+struct Judged<'a> {
+    mem: &'a [u32],
+    sizes: Sizes,
+    tree: Vec<Node>,
+}
+
+const SENTENCES: [fn(&Judged) -> bool; 9] = [
+    forms,
+    root_as_formatted,
+    threes_listed_once,
+    children_agree,
+    tree_bounded,
+    lent_pages_match,
+    kernel_pages_closed,
+    one_use_each,
+    absent_words_zero,
+];
+
+/// Ok, or the number of the first broken sentence, from 1.
+pub fn sound(mem: &[u32]) -> Result<(), u32> {
+    let sizes = Sizes::of_length(mem.len()).ok_or(1u32)?;
+    let judged = Judged { mem, sizes, tree: tree(mem) };
+    match SENTENCES.iter().position(|holds| !holds(&judged)) {
+        Some(place) => Err(place as u32 + 1),
+        None => Ok(()),
+    }
+}
+
+impl Judged<'_> {
+    fn each(&self, holds: impl Fn(&Partition) -> bool) -> bool {
+        self.tree.iter().all(|node| holds(&node.partition))
+    }
+
+    /// Asks of each child: the child, its parent and the child's descriptor address there.
+    fn each_child(&self, holds: impl Fn(&Partition, &Partition, VPage) -> bool) -> bool {
+        self.tree.iter().all(|node| match node.parent {
+            Some((place, at)) => holds(&node.partition, &self.tree[place].partition, at),
+            None => true,
+        })
+    }
+
+    fn is_virtual(&self, address: u32) -> bool {
+        address % PAGE_BYTES == 0 && address < VIRTUAL_END
+    }
+
+    fn is_physical(&self, address: u32) -> bool {
+        address % PAGE_BYTES == 0 && address / PAGE_BYTES < self.sizes.pages
+    }
+
+    fn zero(&self, page: PPage, words: std::ops::Range<usize>) -> bool {
+        words.into_iter().all(|i| word(self.mem, page, i) == 0)
+    }
+}
+
+/// Neither free nor a child's descriptor.
+fn is_lent(shadow1: u32) -> bool {
+    shadow1 != 0 && shadow1 != IS_CHILD
+}
+
+// 1. Header and length, and the forms of all words.
+fn forms(j: &Judged) -> bool {
+    let header = |i| word(j.mem, HEADER, i);
+    header(0) == j.sizes.pages
+        && header(1) == j.sizes.threes
+        && header(2) == ROOT.address()
+        && header(3) == j.sizes.first_flat().address()
+        && j.is_physical(header(CURRENT))
+        && j.zero(HEADER, CURRENT + 1..PAGE_WORDS)
+        && j.each(|p| descriptor_form(j, p) && list_form(j, p) && roots_form(j, p) && tables_form(j, p))
+}
+
+fn pairs_form(j: &Judged, page: PPage, start: usize, count: usize) -> bool {
+    (0..count).all(|k| {
+        j.is_virtual(word(j.mem, page, start + 2 * k)) && j.is_physical(word(j.mem, page, start + 2 * k + 1))
+    })
+}
+
+fn descriptor_form(j: &Judged, p: &Partition) -> bool {
+    pairs_form(j, p.descriptor, 0, 5)
+        && word(j.mem, p.descriptor, PARENT - 1) == 0
+        && j.is_physical(word(j.mem, p.descriptor, PARENT))
+        && j.zero(p.descriptor, PARENT + 1..PAGE_WORDS)
+}
+
+fn list_form(j: &Judged, p: &Partition) -> bool {
+    let used = word(j.mem, p.list, 0) as usize;
+    used % 6 == 1
+        && used <= 1 + 6 * MOST_THREES
+        && pairs_form(j, p.list, 1, used / 2)
+        && j.zero(p.list, used..PAGE_WORDS)
+}
+
+fn roots_form(j: &Judged, p: &Partition) -> bool {
+    (0..PAGE_WORDS).all(|i| {
+        let entries = p.roots().map(|root| word(j.mem, root, i));
+        entries == [0; 3] || entries.iter().all(|&e| e != 0 && j.is_physical(e - 1))
+    })
+}
+
+fn tables_form(j: &Judged, p: &Partition) -> bool {
+    p.tabled(j.mem).all(|v| {
+        let entry = table_word(j.mem, p.directory, v);
+        let rest = entry & !(PRESENT + ACCESSIBLE + 4 * ALL_RIGHTS);
+        let entry_fits = entry == 0 || entry & PRESENT != 0 && j.is_physical(rest) && v != VPage(0);
+        let shadow1 = p.shadow1(j.mem, v);
+        entry_fits && (shadow1 == IS_CHILD || j.is_virtual(shadow1)) && j.is_virtual(p.shadow2(j.mem, v))
+    })
+}
+
+// 2. The root is as format leaves it and maps exactly the flat pages.
+fn root_as_formatted(j: &Judged) -> bool {
+    let (root, threes) = (Partition::at(j.mem, ROOT), j.sizes.threes);
+    let descriptor = (0..12).all(|i| {
+        let physical = if i % 2 == 1 && i < 10 { PPage(1 + i as u32 / 2).address() } else { 0 };
+        word(j.mem, ROOT, i) == physical
+    });
+    let roots = (0..PAGE_WORDS as u32).all(|k| {
+        (0..3).all(|kind| {
+            let entry = if k < threes { PPage(FIRST_THREE + 3 * k + kind).address() + PRESENT } else { 0 };
+            word(j.mem, root.roots()[kind as usize], k as usize) == entry
+        })
+    });
+    let listed = (0..3 * threes).map(|k| (VPage(0), PPage(FIRST_THREE + k)));
+    let flat = (1..=j.sizes.free).map(|v| {
+        let page = PPage(j.sizes.first_flat().0 + v - 1);
+        (VPage(v), page, ALL_RIGHTS, 0)
+    });
+    let mapped = root.mappings(j.mem).map(|(v, m)| (v, m.page, m.rights, root.shadow2(j.mem, v)));
+    descriptor && roots && root.list_pairs(j.mem).into_iter().eq(listed) && mapped.eq(flat)
+}
+
+// 3. Listed threes and directory indices that have tables match one to one.
+fn threes_listed_once(j: &Judged) -> bool {
+    j.each(|p| {
+        let pairs = p.list_pairs(j.mem);
+        let listed: Vec<_> =
+            pairs.chunks(3).map(|three| [0, 1, 2].map(|kind| three[kind].1.address() + PRESENT)).collect();
+        let standing: Vec<_> = (0..PAGE_WORDS)
+            .map(|i| p.roots().map(|root| word(j.mem, root, i)))
+            .filter(|entries| *entries != [0; 3])
+            .collect();
+        let once = |all: &[[u32; 3]], one: &[u32; 3]| all.iter().filter(|x| *x == one).count() == 1;
+        listed.iter().all(|three| once(&standing, three)) && standing.iter().all(|three| once(&listed, three))
+    })
+}
+
+// 4. Every shadow 1 word 1 leads to a child whose parent word, first pair and other pairs agree.
+fn children_agree(j: &Judged) -> bool {
+    j.each(|p| p.tabled(j.mem).all(|v| p.shadow1(j.mem, v) != IS_CHILD || leads_to_child(j.mem, p, v)))
+}
+
+fn leads_to_child(mem: &[u32], parent: &Partition, v: VPage) -> bool {
+    let Some(m) = parent.mapping(mem, v) else { return false };
+    let pairs = Partition::at(mem, m.page).kernel_pairs(mem);
+    word(mem, m.page, PARENT) == parent.descriptor.address()
+        && pairs[0] == (v, m.page)
+        && pairs.iter().all(|&(at, page)| parent.mapping(mem, at).is_some_and(|m| m.page == page))
+}
+
+// 5. The tree is at most 8 below the root, and current is in it.
+fn tree_bounded(j: &Judged) -> bool {
+    let current = PPage::of(word(j.mem, HEADER, CURRENT));
+    j.tree.iter().all(|node| node.depth <= MOST_DEPTH)
+        && j.tree.iter().any(|node| node.partition.descriptor == current)
+}
+
+// 6. Each page mapped in a child is lent to it by its parent; each lent page is mapped there once.
+fn lent_pages_match(j: &Judged) -> bool {
+    let backed = j.each_child(|child, parent, at| {
+        child.mappings(j.mem).all(|(v, m)| {
+            let lender = VPage::of(child.shadow2(j.mem, v));
+            parent.mapping(j.mem, lender).is_some_and(|own| {
+                own.page == m.page && own.accessible == m.accessible && m.rights & !own.rights == 0
+            }) && parent.shadow1(j.mem, lender) == at.address()
+        })
+    });
+    let once = j.each_child(|child, parent, at| {
+        let mut lenders: Vec<_> = child.mappings(j.mem).map(|(v, _)| child.shadow2(j.mem, v)).collect();
+        lenders.sort_unstable();
+        let lent = parent.mappings(j.mem).filter(|&(v, _)| parent.shadow1(j.mem, v) == at.address());
+        lent.map(|(v, _)| v.address()).eq(lenders)
+    });
+    let named = j.each(|p| {
+        p.mappings(j.mem).all(|(v, _)| {
+            let name = p.shadow1(j.mem, v);
+            !is_lent(name) || p.shadow1(j.mem, VPage::of(name)) == IS_CHILD
+        })
+    });
+    backed && once && named
+}
+
+// 7. Children's kernel pages are inaccessible and not lent; no other page that isn't lent is.
+fn kernel_pages_closed(j: &Judged) -> bool {
+    let closed = j.each_child(|child, parent, _| {
+        child.kernel_pairs(j.mem).iter().all(|&(at, _)| {
+            parent.mapping(j.mem, at).is_some_and(|m| !m.accessible) && !is_lent(parent.shadow1(j.mem, at))
+        })
+    });
+    let mut kernel: Vec<Vec<VPage>> = vec![Vec::new(); j.tree.len()];
+    for node in &j.tree {
+        if let Some((place, _)) = node.parent {
+            kernel[place].extend(node.partition.kernel_pairs(j.mem).iter().map(|pair| pair.0));
+        }
+    }
+    let no_other = j.tree.iter().zip(&mut kernel).all(|(node, kernel)| {
+        kernel.sort_unstable();
+        node.partition.mappings(j.mem).all(|(v, m)| {
+            m.accessible || is_lent(node.partition.shadow1(j.mem, v)) || kernel.binary_search(&v).is_ok()
+        })
+    });
+    closed && no_other
+}
+
+// 8. Pages 1 to N-1 are each in exactly one hand or one kernel use.
+fn one_use_each(j: &Judged) -> bool {
+    let mut uses = vec![0u32; j.sizes.pages as usize];
+    for Node { partition, .. } in &j.tree {
+        let hand = partition.mappings(j.mem).filter(|&(v, _)| partition.in_hand(j.mem, v));
+        let kernel = partition.kernel_pairs(j.mem).into_iter().map(|pair| pair.1);
+        for page in hand.map(|(_, m)| m.page).chain(kernel) {
+            uses[page.0 as usize] += 1;
+        }
+    }
+    uses[1..].iter().all(|&count| count == 1)
+}
+
+// 9. An absent mapping has 0 in all three table words.
+fn absent_words_zero(j: &Judged) -> bool {
+    j.each(|p| {
+        p.tabled(j.mem).all(|v| {
+            p.mapping(j.mem, v).is_some() || p.shadow1(j.mem, v) == 0 && p.shadow2(j.mem, v) == 0
+        })
+    })
+}

@@ -1,0 +1,35 @@
+//! The partitions reached from the root by shadow 1 words 1 on present mappings.
+
+use crate::geometry::{PPage, VPage, PAGE_WORDS};
+use crate::memory::*;
+
+pub struct Node {
+    pub partition: Partition,
+    /// The parent's place in the tree, and the child's descriptor address there; none for the root.
+    pub parent: Option<(usize, VPage)>,
+    pub depth: usize,
+}
+
+/// Breadth first. Each descriptor page is marked when met, so the walk ends on any memory.
+pub fn tree(mem: &[u32]) -> Vec<Node> {
+    let mut met = vec![false; mem.len() / PAGE_WORDS];
+    let mut nodes = Vec::new();
+    let mut add = |nodes: &mut Vec<Node>, page: PPage, parent, depth| {
+        if let Some(mark @ false) = met.get_mut(page.0 as usize) {
+            *mark = true;
+            nodes.push(Node { partition: Partition::at(mem, page), parent, depth });
+        }
+    };
+    add(&mut nodes, ROOT, None, 0);
+    let mut place = 0;
+    while place < nodes.len() {
+        let (own, depth) = (nodes[place].partition, nodes[place].depth);
+        for (v, m) in own.mappings(mem) {
+            if own.shadow1(mem, v) == IS_CHILD {
+                add(&mut nodes, m.page, Some((place, v)), depth + 1);
+            }
+        }
+        place += 1;
+    }
+    nodes
+}
