@@ -6,3 +6,6 @@ pub mod Conditions
 pub mod Refusals
 pub mod Effects
 pub mod Calls
+pub mod Bytes
+pub mod Record
+pub mod Replay

@@ -48,7 +48,7 @@ fn caller_of(mem: &[u32]) -> Result<Partition, u32> {
 }
 
 fn good_address(address: u32, multiple: u32) -> bool {
-    (PAGE_BYTES..VIRTUAL_END).contains(&address) && address % multiple == 0
+    (PAGE_BYTES..VIRTUAL_END).contains(&address) && address.is_multiple_of(multiple)
 }
 
 fn page_addresses<const K: usize>(addresses: [u32; K]) -> Result<[VPage; K], u32> {
@@ -118,12 +118,12 @@ fn give_back(mem: &mut [u32], caller: &Partition, at: VPage) {
 pub fn format(mem: &mut [u32]) -> Answer {
     let sizes = Sizes::of_length(mem.len()).ok_or(SIZE)?;
     mem.fill(0);
-    let header = [sizes.pages, sizes.threes, ROOT.address(), sizes.first_flat().address(), ROOT.address()];
+    let header = [sizes.pages, sizes.threes, ROOT_PAGE.address(), sizes.first_flat().address(), ROOT_PAGE.address()];
     page_mut(mem, HEADER)[..5].copy_from_slice(&header);
     for pair in 0..5 {
-        set_word(mem, ROOT, 2 * pair + 1, PPage(1 + pair as u32).address());
+        set_word(mem, ROOT_PAGE, 2 * pair + 1, PPage(1 + pair as u32).address());
     }
-    let root = Partition::at(mem, ROOT);
+    let root = Partition::at(mem, ROOT_PAGE);
     set_word(mem, root.list, 0, 1 + 6 * sizes.threes);
     for k in 0..3 * sizes.threes {
         let page = PPage(FIRST_THREE + k);
@@ -306,7 +306,7 @@ pub fn enter(mem: &mut [u32], child: u32) -> Answer {
 
 pub fn leave(mem: &mut [u32]) -> Answer {
     let caller = caller_of(mem)?;
-    let parent = parent_of(mem, caller.descriptor).ok_or(crate::refusal::ROOT)?;
+    let parent = parent_of(mem, caller.descriptor).ok_or(ROOT)?;
     set_word(mem, HEADER, CURRENT, parent.address());
     Ok(0)
 }

@@ -1,71 +1,62 @@
-//! Small guided changes to a memory, for comparing judgements of soundness.
+//! Small guided changes to a sound memory, for comparing judgements of soundness.
 
-use crate::geometry::{PPage, PAGE_WORDS};
+use crate::geometry::{PPage, VPage, PAGE_WORDS};
 use crate::memory::*;
 use crate::random::Random;
-use crate::tree::tree;
+use crate::tree::{tree, Node};
 
-/// Changes one word or two, mostly in kernel pages; answers each changed index and its new value.
-pub fn damage(mem: &mut [u32], random: &mut Random) -> Vec<(usize, u32)> {
-    let kernel = kernel_pages(mem);
-    let first = place(mem, &kernel, random);
-    let old = mem[first];
-    let mut changes = vec![(first, changed(mem, &kernel, old, random))];
-    if random.once_in(3) {
-        let second = place(mem, &kernel, random);
-        if second != first {
-            let swap = random.once_in(3);
-            let value = if swap { old } else { changed(mem, &kernel, mem[second], random) };
-            if swap {
-                changes[0].1 = mem[second];
-            }
-            changes.push((second, value));
-        }
+/// Indices of words and their new values.
+pub type Changes = Vec<(usize, u32)>;
+
+/// Changes of one word or two, mostly in kernel pages.
+pub fn damage(mem: &[u32], random: &mut Random) -> Changes {
+    let mut kernel = vec![HEADER; 3];
+    for node in tree(mem) {
+        kernel.extend(node.partition.kernel_pairs(mem).iter().map(|pair| pair.1));
     }
-    apply(mem, changes)
-}
-
-/// Gives one page two kernel uses: a child of the root takes another child page for its own, and
-/// the page it drops becomes accessible. Three words; fewer can't break sentence 8 alone.
-pub fn second_use(mem: &mut [u32], random: &mut Random) -> Vec<(usize, u32)> {
-    let nodes = tree(mem);
-    let children: Vec<_> = nodes.iter().filter(|node| node.depth == 1).map(|node| node.partition).collect();
-    let (Some(taker), Some(giver)) = (random.pick(&children), random.pick(&children)) else {
-        return Vec::new();
-    };
-    let (own, other) = (1 + random.below(4), 1 + random.below(4));
-    let (dropped, page) = taker.kernel_pairs(mem)[own];
-    let taken = giver.kernel_pairs(mem)[other];
-    let root = Partition::at(mem, ROOT);
-    let entry = PPage::of(word(mem, root.directory, dropped.directory_index()));
-    let open = Mapping { page, accessible: true, rights: 7 }.encode();
-    let pair = taker.descriptor.0 as usize * PAGE_WORDS + 2 * own;
-    let mapped = entry.0 as usize * PAGE_WORDS + dropped.table_index();
-    apply(mem, vec![(pair, taken.0.address()), (pair + 1, taken.1.address()), (mapped, open)])
-}
-
-fn apply(mem: &mut [u32], changes: Vec<(usize, u32)>) -> Vec<(usize, u32)> {
-    for &(index, value) in &changes {
-        mem[index] = value;
+    let (first, second) = (place(mem, &kernel, random), place(mem, &kernel, random));
+    let mut changes = vec![(first, changed(mem, &kernel, first, random))];
+    if first != second && random.once_in(3) {
+        changes.push((second, changed(mem, &kernel, second, random)));
+        if random.once_in(3) {
+            changes = vec![(first, mem[second]), (second, mem[first])];
+        }
     }
     changes
 }
 
-fn kernel_pages(mem: &[u32]) -> Vec<PPage> {
-    let mut pages = vec![HEADER];
-    for node in tree(mem) {
-        pages.extend(node.partition.kernel_pairs(mem).iter().map(|pair| pair.1));
+/// Gives one page two kernel uses, which takes three words or more: a child without threes takes a
+/// page of its own or of such a sibling a second time, and the page it drops comes to its parent's hand.
+pub fn second_use(mem: &[u32], random: &mut Random) -> Option<Changes> {
+    let nodes = tree(mem);
+    let bare: Vec<_> = nodes.iter().filter(|node| node.partition.three_count(mem) == 0).collect();
+    let taker = random.pick(&bare)?;
+    let (mut place, _) = taker.parent?;
+    let siblings: Vec<_> = bare.iter().filter(|node| node.parent.is_some_and(|p| p.0 == place)).collect();
+    let giver = random.pick(&siblings)?;
+    let (own, other) = random.pick(&[(1, 2), (2, 3), (3, 1), (1, 1), (2, 2), (3, 3), (4, 4)])?;
+    let (mut dropped, page) = taker.partition.kernel_pairs(mem)[own];
+    let (at, taken) = giver.partition.kernel_pairs(mem)[other];
+    let pair = taker.partition.descriptor.0 as usize * PAGE_WORDS + 2 * own;
+    let mut changes = vec![(pair, at.address()), (pair + 1, taken.address())];
+    if page != taken {
+        loop {
+            let Node { partition, parent, .. } = &nodes[place];
+            let table = PPage::of(word(mem, partition.directory, dropped.directory_index()));
+            let index = table.0 as usize * PAGE_WORDS + dropped.table_index();
+            changes.push((index, mem[index] | ACCESSIBLE));
+            dropped = VPage::of(partition.shadow2(mem, dropped));
+            let Some((above, _)) = *parent else { break };
+            place = above;
+        }
     }
-    pages
+    Some(changes)
 }
 
 /// A word's index, mostly in a kernel page and mostly not 0.
 fn place(mem: &[u32], kernel: &[PPage], random: &mut Random) -> usize {
     let mut index = random.below(mem.len());
-    for _ in 0..6 {
-        if random.once_in(24) {
-            return random.below(mem.len());
-        }
+    for _ in 0..if random.once_in(24) { 0 } else { 6 } {
         let page = random.pick(kernel).unwrap_or(HEADER);
         index = page.0 as usize * PAGE_WORDS + random.below(PAGE_WORDS);
         if mem[index] != 0 {
@@ -75,23 +66,24 @@ fn place(mem: &[u32], kernel: &[PPage], random: &mut Random) -> usize {
     index
 }
 
-/// A near or likely value for a word.
-fn changed(mem: &[u32], kernel: &[PPage], old: u32, random: &mut Random) -> u32 {
-    let address = (random.below(mem.len() / PAGE_WORDS + 1) as u32) << 8;
-    match random.below(14) {
+/// A near or likely value for the word.
+fn changed(mem: &[u32], kernel: &[PPage], index: usize, random: &mut Random) -> u32 {
+    let old = mem[index];
+    let address = PPage(random.below(mem.len() / PAGE_WORDS + 1) as u32).address();
+    match random.below(18) {
         0 => old ^ 1 << random.below(32),
-        1 => old ^ 1 << random.below(5),
-        2 => old ^ 1 << (8 + random.below(8)),
-        3 => old.wrapping_add(1),
-        4 => old.wrapping_sub(1),
-        5 => 0,
-        6 => 1,
-        7 => address,
-        8 => address + 1,
-        9 => address + (old & 255),
-        10 => old.wrapping_add(256),
-        11 => old.wrapping_sub(256),
-        12 => old ^ ACCESSIBLE,
+        1 | 2 => old ^ 1 << (2 + random.below(3)),
+        3 => old ^ 1 << (8 + random.below(8)),
+        4 => old.wrapping_add(1),
+        5 => old.wrapping_sub(1),
+        6 => old.wrapping_add(256),
+        7 => old.wrapping_sub(256),
+        8 => 0,
+        9 => 1,
+        10 => address,
+        11 => address + 1,
+        12 | 13 => address + (old & 255),
+        14 | 15 => old ^ ACCESSIBLE,
         _ => mem[place(mem, kernel, random)],
     }
 }

@@ -73,7 +73,7 @@ impl Sizes {
 
     /// None when the length in words is not that of whole pages, or of too few or too many.
     pub fn of_length(words: usize) -> Option<Sizes> {
-        if words % PAGE_WORDS != 0 {
+        if !words.is_multiple_of(PAGE_WORDS) {
             return None;
         }
         Sizes::of_pages(words / PAGE_WORDS)

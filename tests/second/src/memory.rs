@@ -7,7 +7,7 @@ use crate::geometry::*;
 pub const CURRENT: usize = 4;
 /// Descriptor word that holds the parent's descriptor address.
 pub const PARENT: usize = 11;
-pub const ROOT: PPage = PPage(1);
+pub const ROOT_PAGE: PPage = PPage(1);
 pub const HEADER: PPage = PPage(0);
 /// Shadow 1 word of a page that is itself a child's descriptor.
 pub const IS_CHILD: u32 = 1;
@@ -45,7 +45,7 @@ impl Partition {
     /// The root's pages are 1 to 5; a child's are those its descriptor names.
     pub fn at(mem: &[u32], descriptor: PPage) -> Partition {
         let named = |pair: usize| match descriptor {
-            ROOT => PPage(1 + pair as u32),
+            ROOT_PAGE => PPage(1 + pair as u32),
             _ => PPage::of(word(mem, descriptor, 2 * pair + 1)),
         };
         Partition { descriptor, directory: named(1), shadow1: named(2), shadow2: named(3), list: named(4) }

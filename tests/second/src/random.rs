@@ -8,7 +8,7 @@ impl Random {
         Random(seed.wrapping_mul(0x9E37_79B9_7F4A_7C15) ^ 0xD1B5_4A32_D192_ED03 | 1)
     }
 
-    pub fn next(&mut self) -> u64 {
+    pub fn draw(&mut self) -> u64 {
         self.0 ^= self.0 << 13;
         self.0 ^= self.0 >> 7;
         self.0 ^= self.0 << 17;
@@ -17,7 +17,7 @@ impl Random {
 
     /// A number below the bound; 0 for bound 0.
     pub fn below(&mut self, bound: usize) -> usize {
-        ((self.next() >> 20) as usize).checked_rem(bound).unwrap_or(0)
+        ((self.draw() >> 20) as usize).checked_rem(bound).unwrap_or(0)
     }
 
     /// True once in so many times.

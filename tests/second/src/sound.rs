@@ -46,11 +46,11 @@ impl Judged<'_> {
     }
 
     fn is_virtual(&self, address: u32) -> bool {
-        address % PAGE_BYTES == 0 && address < VIRTUAL_END
+        address.is_multiple_of(PAGE_BYTES) && address < VIRTUAL_END
     }
 
     fn is_physical(&self, address: u32) -> bool {
-        address % PAGE_BYTES == 0 && address / PAGE_BYTES < self.sizes.pages
+        address.is_multiple_of(PAGE_BYTES) && address / PAGE_BYTES < self.sizes.pages
     }
 
     fn zero(&self, page: PPage, words: std::ops::Range<usize>) -> bool {
@@ -68,7 +68,7 @@ fn forms(j: &Judged) -> bool {
     let header = |i| word(j.mem, HEADER, i);
     header(0) == j.sizes.pages
         && header(1) == j.sizes.threes
-        && header(2) == ROOT.address()
+        && header(2) == ROOT_PAGE.address()
         && header(3) == j.sizes.first_flat().address()
         && j.is_physical(header(CURRENT))
         && j.zero(HEADER, CURRENT + 1..PAGE_WORDS)
@@ -76,9 +76,8 @@ fn forms(j: &Judged) -> bool {
 }
 
 fn pairs_form(j: &Judged, page: PPage, start: usize, count: usize) -> bool {
-    (0..count).all(|k| {
-        j.is_virtual(word(j.mem, page, start + 2 * k)) && j.is_physical(word(j.mem, page, start + 2 * k + 1))
-    })
+    (0..count)
+        .all(|k| j.is_virtual(word(j.mem, page, start + 2 * k)) && j.is_physical(word(j.mem, page, start + 2 * k + 1)))
 }
 
 fn descriptor_form(j: &Judged, p: &Partition) -> bool {
@@ -115,10 +114,10 @@ fn tables_form(j: &Judged, p: &Partition) -> bool {
 
 // 2. The root is as format leaves it and maps exactly the flat pages.
 fn root_as_formatted(j: &Judged) -> bool {
-    let (root, threes) = (Partition::at(j.mem, ROOT), j.sizes.threes);
+    let (root, threes) = (Partition::at(j.mem, ROOT_PAGE), j.sizes.threes);
     let descriptor = (0..12).all(|i| {
         let physical = if i % 2 == 1 && i < 10 { PPage(1 + i as u32 / 2).address() } else { 0 };
-        word(j.mem, ROOT, i) == physical
+        word(j.mem, ROOT_PAGE, i) == physical
     });
     let roots = (0..PAGE_WORDS as u32).all(|k| {
         (0..3).all(|kind| {
@@ -166,8 +165,7 @@ fn leads_to_child(mem: &[u32], parent: &Partition, v: VPage) -> bool {
 // 5. The tree is at most 8 below the root, and current is in it.
 fn tree_bounded(j: &Judged) -> bool {
     let current = PPage::of(word(j.mem, HEADER, CURRENT));
-    j.tree.iter().all(|node| node.depth <= MOST_DEPTH)
-        && j.tree.iter().any(|node| node.partition.descriptor == current)
+    j.tree.iter().all(|node| node.depth <= MOST_DEPTH) && j.tree.iter().any(|node| node.partition.descriptor == current)
 }
 
 // 6. Each page mapped in a child is lent to it by its parent; each lent page is mapped there once.
@@ -175,9 +173,10 @@ fn lent_pages_match(j: &Judged) -> bool {
     let backed = j.each_child(|child, parent, at| {
         child.mappings(j.mem).all(|(v, m)| {
             let lender = VPage::of(child.shadow2(j.mem, v));
-            parent.mapping(j.mem, lender).is_some_and(|own| {
-                own.page == m.page && own.accessible == m.accessible && m.rights & !own.rights == 0
-            }) && parent.shadow1(j.mem, lender) == at.address()
+            parent
+                .mapping(j.mem, lender)
+                .is_some_and(|own| own.page == m.page && own.accessible == m.accessible && m.rights & !own.rights == 0)
+                && parent.shadow1(j.mem, lender) == at.address()
         })
     });
     let once = j.each_child(|child, parent, at| {
@@ -210,9 +209,9 @@ fn kernel_pages_closed(j: &Judged) -> bool {
     }
     let no_other = j.tree.iter().zip(&mut kernel).all(|(node, kernel)| {
         kernel.sort_unstable();
-        node.partition.mappings(j.mem).all(|(v, m)| {
-            m.accessible || is_lent(node.partition.shadow1(j.mem, v)) || kernel.binary_search(&v).is_ok()
-        })
+        node.partition
+            .mappings(j.mem)
+            .all(|(v, m)| m.accessible || is_lent(node.partition.shadow1(j.mem, v)) || kernel.binary_search(&v).is_ok())
     });
     closed && no_other
 }
@@ -233,8 +232,6 @@ fn one_use_each(j: &Judged) -> bool {
 // 9. An absent mapping has 0 in all three table words.
 fn absent_words_zero(j: &Judged) -> bool {
     j.each(|p| {
-        p.tabled(j.mem).all(|v| {
-            p.mapping(j.mem, v).is_some() || p.shadow1(j.mem, v) == 0 && p.shadow2(j.mem, v) == 0
-        })
+        p.tabled(j.mem).all(|v| p.mapping(j.mem, v).is_some() || p.shadow1(j.mem, v) == 0 && p.shadow2(j.mem, v) == 0)
     })
 }

@@ -20,7 +20,7 @@ pub fn tree(mem: &[u32]) -> Vec<Node> {
             nodes.push(Node { partition: Partition::at(mem, page), parent, depth });
         }
     };
-    add(&mut nodes, ROOT, None, 0);
+    add(&mut nodes, ROOT_PAGE, None, 0);
     let mut place = 0;
     while place < nodes.len() {
         let (own, depth) = (nodes[place].partition, nodes[place].depth);

@@ -9,7 +9,7 @@ use second::sound::sound;
 use std::collections::BTreeMap;
 use std::io::{self, BufWriter, Write};
 
-const USAGE: &str = "trace run | trace make SEED COUNT N | trace cover | trace damage SEED COUNT [3]";
+const USAGE: &str = "trace run | trace make SEED COUNT N | trace cover | trace damage SEED COUNT [1]";
 
 struct File {
     pages: usize,
@@ -26,7 +26,7 @@ fn main() {
         ("make", Ok(&[seed, count, pages])) => print_made(seed, count as usize, pages as usize, &mut out),
         ("cover", Ok([])) => read().and_then(|file| cover(&file, &mut out)),
         ("damage", Ok(&[seed, count])) => read().and_then(|file| damages(&file, seed, count, false, &mut out)),
-        ("damage", Ok(&[seed, count, 3])) => read().and_then(|file| damages(&file, seed, count, true, &mut out)),
+        ("damage", Ok(&[seed, count, 1])) => read().and_then(|file| damages(&file, seed, count, true, &mut out)),
         _ => Err(io::Error::other(USAGE)),
     };
     if let Err(error) = done.and_then(|()| out.flush()) {
@@ -113,14 +113,17 @@ fn cover(file: &File, out: &mut impl Write) -> io::Result<()> {
     writeln!(out)
 }
 
-fn damages(file: &File, seed: u64, count: u64, three: bool, out: &mut impl Write) -> io::Result<()> {
+/// Damages fresh copies of the final memory; with `wide`, some of them by giving a page a second use.
+fn damages(file: &File, seed: u64, count: u64, wide: bool, out: &mut impl Write) -> io::Result<()> {
     let mem = perform(file, |_, _, _| Ok(()))?;
+    sound(&mem).map_err(|_| io::Error::other("nothing to damage"))?;
     let mut random = Random::new(seed);
     for _ in 0..count {
+        let wider = if wide && random.once_in(4) { second_use(&mem, &mut random) } else { None };
+        let changes = wider.unwrap_or_else(|| damage(&mem, &mut random));
         let mut copy = mem.clone();
-        let changes =
-            if three && random.once_in(4) { second_use(&mut copy, &mut random) } else { damage(&mut copy, &mut random) };
         for (index, value) in changes {
+            copy[index] = value;
             write!(out, "{index} {value} ")?;
         }
         match sound(&copy) {
