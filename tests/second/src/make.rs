@@ -14,7 +14,7 @@ struct Maker {
 }
 
 /// So many calls for a memory of so many pages; each line is a call number and its arguments.
-pub fn make(seed: u64, count: usize, pages: usize) -> Vec<Vec<u32>> {
+pub fn make(seed: u32, count: usize, pages: usize) -> Vec<Vec<u32>> {
     let mem = vec![0; pages * PAGE_WORDS];
     let mut maker = Maker { mem, random: Random::new(seed), lines: Vec::new(), count };
     // A bad page count is refused here; the calls are made all the same.
@@ -139,7 +139,8 @@ impl Maker {
         let lacks_pages = matches!(number, 1 | 6) && self.hand(WRITE).len() < 5;
         if (lacks_child || lacks_pages) && !self.random.once_in(8) {
             return match self.hand(WRITE).len() {
-                0..=4 if children.is_empty() => self.say(&[10]),
+                0..=4 if children.is_empty() && self.random.once_in(2) => self.say(&[10]),
+                0..=4 if children.is_empty() => self.guided(11),
                 0..=4 => self.tear(),
                 _ => self.create(),
             };

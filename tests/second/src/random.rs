@@ -3,9 +3,9 @@
 pub struct Random(u64);
 
 impl Random {
-    pub fn new(seed: u64) -> Random {
+    pub fn new(seed: u32) -> Random {
         // Spread the seed so that near seeds differ and the state is never 0.
-        Random(seed.wrapping_mul(0x9E37_79B9_7F4A_7C15) ^ 0xD1B5_4A32_D192_ED03 | 1)
+        Random(u64::from(seed).wrapping_mul(0x9E37_79B9_7F4A_7C15) ^ 0xD1B5_4A32_D192_ED03 | 1)
     }
 
     pub fn draw(&mut self) -> u64 {

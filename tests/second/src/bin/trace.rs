@@ -9,7 +9,7 @@ use second::sound::sound;
 use std::collections::BTreeMap;
 use std::io::{self, BufWriter, Write};
 
-const USAGE: &str = "trace run | trace make SEED COUNT N | trace cover | trace damage SEED COUNT [1]";
+const USAGE: &str = "trace run | trace make SEED COUNT N | trace cover | trace damage SEED COUNT [wide]";
 
 struct File {
     pages: usize,
@@ -18,15 +18,14 @@ struct File {
 
 fn main() {
     let arguments: Vec<String> = std::env::args().skip(1).collect();
-    let numbers: Result<Vec<u64>, _> = arguments.iter().skip(1).map(|a| a.parse()).collect();
-    let mode = arguments.first().map_or("", |a| a.as_str());
+    let words: Vec<&str> = arguments.iter().map(String::as_str).collect();
     let mut out = BufWriter::new(io::stdout().lock());
-    let done = match (mode, numbers.as_deref()) {
-        ("run", Ok([])) => read().and_then(|file| run(&file, &mut out)),
-        ("make", Ok(&[seed, count, pages])) => print_made(seed, count as usize, pages as usize, &mut out),
-        ("cover", Ok([])) => read().and_then(|file| cover(&file, &mut out)),
-        ("damage", Ok(&[seed, count])) => read().and_then(|file| damages(&file, seed, count, false, &mut out)),
-        ("damage", Ok(&[seed, count, 1])) => read().and_then(|file| damages(&file, seed, count, true, &mut out)),
+    let done = match words[..] {
+        ["run"] => read().and_then(|file| run(&file, &mut out)),
+        ["cover"] => read().and_then(|file| cover(&file, &mut out)),
+        ["make", seed, count, pages] => print_made(seed, count, pages, &mut out),
+        ["damage", seed, count] => print_damaged(seed, count, false, &mut out),
+        ["damage", seed, count, "wide"] => print_damaged(seed, count, true, &mut out),
         _ => Err(io::Error::other(USAGE)),
     };
     if let Err(error) = done.and_then(|()| out.flush()) {
@@ -35,25 +34,23 @@ fn main() {
     }
 }
 
+fn number(word: &str) -> io::Result<u32> {
+    word.parse().map_err(|_| io::Error::other(format!("bad number: {word}")))
+}
+
 /// The first line is the page count, each further line a call.
 fn read() -> io::Result<File> {
     let text = io::read_to_string(io::stdin())?;
-    let bad = |line: &str| io::Error::other(format!("bad line: {line}"));
-    let numbers = |line: &str| -> Result<Vec<u32>, io::Error> {
-        line.split_whitespace().map(|n| n.parse().map_err(|_| bad(line))).collect()
-    };
     let mut lines = text.lines();
-    let first = lines.next().unwrap_or("");
-    let pages = match numbers(first)?[..] {
-        [pages] if pages <= 4096 => pages as usize,
-        _ => return Err(bad(first)),
-    };
+    let pages = number(lines.next().unwrap_or("").trim())? as usize;
     let mut calls = Vec::new();
     for line in lines {
-        let numbers = numbers(line)?;
+        let numbers = line.split_whitespace().map(number).collect::<io::Result<Vec<u32>>>()?;
         // The argument count is asked of an empty memory, which every call refuses.
-        let known = !numbers.is_empty() && call(&mut [], numbers[0], &numbers[1..]).is_some();
-        calls.push(known.then_some(numbers).ok_or(bad(line))?);
+        if pages > 4096 || numbers.is_empty() || call(&mut [], numbers[0], &numbers[1..]).is_none() {
+            return Err(io::Error::other(format!("bad line: {line}")));
+        }
+        calls.push(numbers);
     }
     Ok(File { pages, calls })
 }
@@ -83,9 +80,9 @@ fn hash(mem: &[u32]) -> u64 {
     bytes.fold(0xcbf2_9ce4_8422_2325, |hash, byte| (hash ^ u64::from(byte)).wrapping_mul(0x100_0000_01b3))
 }
 
-fn print_made(seed: u64, count: usize, pages: usize, out: &mut impl Write) -> io::Result<()> {
-    writeln!(out, "{pages}")?;
-    for line in make(seed, count, pages) {
+fn print_made(seed: &str, count: &str, pages: &str, out: &mut impl Write) -> io::Result<()> {
+    writeln!(out, "{}", number(pages)?)?;
+    for line in make(number(seed)?, number(count)? as usize, number(pages)? as usize) {
         let numbers: Vec<String> = line.iter().map(u32::to_string).collect();
         writeln!(out, "{}", numbers.join(" "))?;
     }
@@ -114,11 +111,11 @@ fn cover(file: &File, out: &mut impl Write) -> io::Result<()> {
 }
 
 /// Damages fresh copies of the final memory; with `wide`, some of them by giving a page a second use.
-fn damages(file: &File, seed: u64, count: u64, wide: bool, out: &mut impl Write) -> io::Result<()> {
-    let mem = perform(file, |_, _, _| Ok(()))?;
+fn print_damaged(seed: &str, count: &str, wide: bool, out: &mut impl Write) -> io::Result<()> {
+    let mem = perform(&read()?, |_, _, _| Ok(()))?;
     sound(&mem).map_err(|_| io::Error::other("nothing to damage"))?;
-    let mut random = Random::new(seed);
-    for _ in 0..count {
+    let mut random = Random::new(number(seed)?);
+    for _ in 0..number(count)? {
         let wider = if wide && random.once_in(4) { second_use(&mem, &mut random) } else { None };
         let changes = wider.unwrap_or_else(|| damage(&mem, &mut random));
         let mut copy = mem.clone();

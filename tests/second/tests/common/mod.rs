@@ -1,0 +1,46 @@
+//! What several tests share.
+#![allow(dead_code)]
+
+use second::calls::*;
+use second::geometry::PAGE_WORDS;
+
+/// A freshly formatted memory.
+pub fn formatted(pages: usize) -> Vec<u32> {
+    let mut mem = vec![0xA5A5_A5A5; pages * PAGE_WORDS];
+    assert_eq!(format(&mut mem), Ok(0));
+    mem
+}
+
+/// Performs a line, a call number and its arguments.
+pub fn say(mem: &mut [u32], line: &[u32]) -> Answer {
+    call(mem, line[0], &line[1..]).expect("a known call")
+}
+
+/// Performs lines that all pass.
+pub fn pass(mem: &mut [u32], lines: &[&[u32]]) {
+    for line in lines {
+        assert!(say(mem, line).is_ok(), "{line:?}");
+    }
+}
+
+/// Chains three pages and prepares the child with them.
+pub fn furnish(mem: &mut [u32], child: u32, target: u32, three: [u32; 3]) -> Answer {
+    let [a, b, c] = three;
+    pass(mem, &[&[12, a, b], &[12, b, c], &[12, c, 0]]);
+    say(mem, &[6, child, target, a])
+}
+
+/// Where `down` puts the pages it lends.
+pub const LOFT: u32 = 1 << 14;
+
+/// From a run of pages in hand at `base`: five make a child, three a three for it, the rest are
+/// lent to it at LOFT; then it is entered.
+pub fn down(mem: &mut [u32], base: u32, pages: u32) {
+    let at = |k: u32| base + 256 * k;
+    pass(mem, &[&[1, at(0), at(1), at(2), at(3), at(4)]]);
+    assert_eq!(furnish(mem, base, LOFT, [at(5), at(6), at(7)]), Ok(0));
+    for k in 8..pages {
+        pass(mem, &[&[3, at(k), base, LOFT + 256 * (k - 8), 7]]);
+    }
+    pass(mem, &[&[9, base]]);
+}
