@@ -34,11 +34,7 @@ pub fn call(mem: &mut [u32], number: u32, arguments: &[u32]) -> Option<Answer> {
 // Checks.
 
 fn require(holds: bool, refusal: u32) -> Result<(), u32> {
-    if holds {
-        Ok(())
-    } else {
-        Err(refusal)
-    }
+    holds.then_some(()).ok_or(refusal)
 }
 
 /// The current partition of sound memory.
@@ -84,11 +80,13 @@ fn parent_of(mem: &[u32], descriptor: PPage) -> Option<PPage> {
 
 // Effects that several calls share.
 
-/// Sets or clears the accessible bit in the caller and each ancestor, following shadow 2.
-fn set_accessible(mem: &mut [u32], caller: &Partition, at: VPage, accessible: bool) {
+/// Wipes the page and sets or clears its accessible bit in the caller and each ancestor, following
+/// shadow 2: to "take" it clears the bit, to "return" it sets it.
+fn wipe(mem: &mut [u32], caller: &Partition, at: VPage, accessible: bool) {
     let (mut own, mut v) = (*caller, at);
     for _ in 0..=MOST_DEPTH {
         if let Some(mapping) = own.mapping(mem, v) {
+            page_mut(mem, mapping.page).fill(0);
             set_table_word(mem, own.directory, v, Mapping { accessible, ..mapping }.encode());
         }
         let Some(parent) = parent_of(mem, own.descriptor) else { break };
@@ -97,20 +95,12 @@ fn set_accessible(mem: &mut [u32], caller: &Partition, at: VPage, accessible: bo
     }
 }
 
-fn wipe(mem: &mut [u32], caller: &Partition, at: VPage) {
-    if let Some(mapping) = caller.mapping(mem, at) {
-        page_mut(mem, mapping.page).fill(0);
-    }
-}
-
 fn take(mem: &mut [u32], caller: &Partition, at: VPage) {
-    wipe(mem, caller, at);
-    set_accessible(mem, caller, at, false);
+    wipe(mem, caller, at, false);
 }
 
 fn give_back(mem: &mut [u32], caller: &Partition, at: VPage) {
-    wipe(mem, caller, at);
-    set_accessible(mem, caller, at, true);
+    wipe(mem, caller, at, true);
 }
 
 // Format and the calls, by number.
@@ -299,8 +289,8 @@ pub fn mapped_in_child(mem: &[u32], page: u32) -> Answer {
 pub fn enter(mem: &mut [u32], child: u32) -> Answer {
     let caller = caller_of(mem)?;
     let [at] = page_addresses([child])?;
-    let child = child_at(mem, &caller, at)?;
-    set_word(mem, HEADER, CURRENT, child.descriptor.address());
+    let descriptor = child_at(mem, &caller, at)?.descriptor;
+    set_word(mem, HEADER, CURRENT, descriptor.address());
     Ok(0)
 }
 

@@ -70,20 +70,17 @@ fn place(mem: &[u32], kernel: &[PPage], random: &mut Random) -> usize {
 fn changed(mem: &[u32], kernel: &[PPage], index: usize, random: &mut Random) -> u32 {
     let old = mem[index];
     let address = PPage(random.below(mem.len() / PAGE_WORDS + 1) as u32).address();
-    match random.below(18) {
+    match random.below(17) {
         0 => old ^ 1 << random.below(32),
         1 | 2 => old ^ 1 << (2 + random.below(3)),
         3 => old ^ 1 << (8 + random.below(8)),
-        4 => old.wrapping_add(1),
-        5 => old.wrapping_sub(1),
-        6 => old.wrapping_add(256),
-        7 => old.wrapping_sub(256),
-        8 => 0,
-        9 => 1,
-        10 => address,
-        11 => address + 1,
-        12 | 13 => address + (old & 255),
-        14 | 15 => old ^ ACCESSIBLE,
+        4 => old.wrapping_add_signed(random.pick(&[1, -1]).unwrap_or(1)),
+        5 | 6 => old.wrapping_add_signed(random.pick(&[256, -256]).unwrap_or(256)),
+        7 => 0,
+        8 => 1,
+        9 => address,
+        10 | 11 => address + (old & 255),
+        12 | 13 => old ^ ACCESSIBLE,
         _ => mem[place(mem, kernel, random)],
     }
 }

@@ -73,10 +73,7 @@ impl Sizes {
 
     /// None when the length in words is not that of whole pages, or of too few or too many.
     pub fn of_length(words: usize) -> Option<Sizes> {
-        if !words.is_multiple_of(PAGE_WORDS) {
-            return None;
-        }
-        Sizes::of_pages(words / PAGE_WORDS)
+        words.is_multiple_of(PAGE_WORDS).then(|| Sizes::of_pages(words / PAGE_WORDS))?
     }
 
     /// The first page handed to the root.

@@ -20,16 +20,16 @@ pub fn make(seed: u32, count: usize, pages: usize) -> Vec<Vec<u32>> {
     // A bad page count is refused here; the calls are made all the same.
     let _ = format(&mut maker.mem);
     while maker.lines.len() < count {
-        match maker.random.below(19) {
+        match maker.random.below(20) {
             0..=7 => maker.mix(60),
             8 | 9 => maker.dig(3, true),
-            10 | 17 => maker.dig_deep(),
-            11 => maker.fill(),
-            12 | 13 => maker.tear(),
-            14 => maker.climb(3),
-            15 | 16 => maker.descend(3),
+            10 | 11 => maker.dig_deep(),
+            12 | 18 => maker.fill(),
+            13 | 14 => maker.tear(),
+            15 => maker.climb(3),
+            16 | 17 => maker.descend(3),
             _ if maker.random.once_in(8) => maker.say(&[0]),
-            _ => maker.clear(),
+            _ => maker.clear_root(),
         }
     }
     maker.lines
@@ -154,8 +154,9 @@ impl Maker {
             1 => return self.create(),
             3 => {
                 let (hand, taken) = (self.hand(0), self.random.once_in(12));
+                let some = if self.random.once_in(3) { 0 } else { READ + WRITE };
                 let (page, any) = (self.mostly(&hand), self.random.below(9) as u32);
-                let rights = if self.random.once_in(4) { any } else { self.rights(page) & (any | 3) };
+                let rights = if self.random.once_in(4) { any } else { self.rights(page) & (any | some) };
                 vec![3, page, child, self.target(child, taken), rights]
             }
             4 | 5 | 7 => {
@@ -248,8 +249,7 @@ impl Maker {
 
     /// From a cleared root as deep as the pages allow, and a create there.
     fn dig_deep(&mut self) {
-        self.climb(MOST_DEPTH);
-        self.clear();
+        self.clear_root();
         self.dig(MOST_DEPTH, false);
         self.create();
         self.mix(20);
@@ -257,8 +257,7 @@ impl Maker {
 
     /// From a cleared root one child with threes until its list is full, and one more.
     fn fill(&mut self) {
-        self.climb(MOST_DEPTH);
-        self.clear();
+        self.clear_root();
         let [a, b, c, d, e, ..] = self.hand(READ + WRITE)[..] else { return };
         self.say(&[1, a, b, c, d, e]);
         for _ in 0..=MOST_THREES {
@@ -289,7 +288,8 @@ impl Maker {
         }
     }
 
-    fn clear(&mut self) {
+    fn clear_root(&mut self) {
+        self.climb(MOST_DEPTH);
         for child in self.children() {
             self.say(&[2, child]);
         }

@@ -1,5 +1,6 @@
 //! When memory is sound: nine sentences, judged in order over every partition of the tree.
 
+use crate::calls::format;
 use crate::geometry::*;
 use crate::memory::*;
 use crate::tree::{tree, Node};
@@ -26,10 +27,7 @@ const SENTENCES: [fn(&Judged) -> bool; 9] = [
 pub fn sound(mem: &[u32]) -> Result<(), u32> {
     let sizes = Sizes::of_length(mem.len()).ok_or(1u32)?;
     let judged = Judged { mem, sizes, tree: tree(mem) };
-    match SENTENCES.iter().position(|holds| !holds(&judged)) {
-        Some(place) => Err(place as u32 + 1),
-        None => Ok(()),
-    }
+    SENTENCES.iter().zip(1..).try_for_each(|(holds, number)| holds(&judged).then_some(()).ok_or(number))
 }
 
 impl Judged<'_> {
@@ -112,26 +110,16 @@ fn tables_form(j: &Judged, p: &Partition) -> bool {
     })
 }
 
-// 2. The root is as format leaves it and maps exactly the flat pages.
+// 2. The root's five pages are as format leaves them, and it maps exactly the flat pages.
 fn root_as_formatted(j: &Judged) -> bool {
-    let (root, threes) = (Partition::at(j.mem, ROOT_PAGE), j.sizes.threes);
-    let descriptor = (0..12).all(|i| {
-        let physical = if i % 2 == 1 && i < 10 { PPage(1 + i as u32 / 2).address() } else { 0 };
-        word(j.mem, ROOT_PAGE, i) == physical
-    });
-    let roots = (0..PAGE_WORDS as u32).all(|k| {
-        (0..3).all(|kind| {
-            let entry = if k < threes { PPage(FIRST_THREE + 3 * k + kind).address() + PRESENT } else { 0 };
-            word(j.mem, root.roots()[kind as usize], k as usize) == entry
-        })
-    });
-    let listed = (0..3 * threes).map(|k| (VPage(0), PPage(FIRST_THREE + k)));
-    let flat = (1..=j.sizes.free).map(|v| {
-        let page = PPage(j.sizes.first_flat().0 + v - 1);
-        (VPage(v), page, ALL_RIGHTS, 0)
-    });
-    let mapped = root.mappings(j.mem).map(|(v, m)| (v, m.page, m.rights, root.shadow2(j.mem, v)));
-    descriptor && roots && root.list_pairs(j.mem).into_iter().eq(listed) && mapped.eq(flat)
+    let mut fresh = vec![0; j.mem.len()];
+    let _ = format(&mut fresh);
+    let root = Partition::at(j.mem, ROOT_PAGE);
+    let five = PAGE_WORDS..FIRST_THREE as usize * PAGE_WORDS;
+    let flat = |mem: &[u32]| -> Vec<_> {
+        root.mappings(mem).map(|(v, m)| (v, m.page, m.rights, root.shadow2(mem, v))).collect()
+    };
+    j.mem[five.clone()] == fresh[five] && flat(j.mem) == flat(&fresh)
 }
 
 // 3. Listed threes and directory indices that have tables match one to one.

@@ -2,8 +2,7 @@
 
 mod common;
 use common::*;
-use second::calls::call;
-use second::calls::ARGUMENTS;
+use second::calls::{call, ARGUMENTS};
 use second::random::Random;
 use second::sound::sound;
 
@@ -15,7 +14,10 @@ fn two_children() -> Vec<u32> {
     mem
 }
 
-fn verdict(changes: &[(usize, usize, u32)]) -> Result<(), u32> {
+/// A page, a word index in it and a value.
+type Change = (usize, usize, u32);
+
+fn verdict(changes: &[Change]) -> Result<(), u32> {
     let mut mem = two_children();
     for &(page, index, value) in changes {
         mem[64 * page + index] = value;
@@ -25,9 +27,9 @@ fn verdict(changes: &[(usize, usize, u32)]) -> Result<(), u32> {
 
 #[test]
 fn sentences() {
-    // Changes as page, word index and value. Pages 6, 7, 8 are the root's tables, 10 to 13 the first
+    // Pages 6, 7, 8 are the root's tables, 10 to 13 the first
     // child's directory, shadows and list.
-    let cases: [(&[(usize, usize, u32)], u32); 32] = [
+    let cases: [(&[Change], u32); 33] = [
         (&[(0, 0, 41)], 1),
         (&[(0, 1, 2)], 1),
         (&[(0, 4, 256 * 40)], 1),
@@ -36,7 +38,7 @@ fn sentences() {
         (&[(10, 1, 0)], 1),
         (&[(6, 0, 256 * 9 + 31)], 1),
         (&[(6, 30, 256 * 38 + 30)], 1),
-        (&[(13, 0, 13)], 1),
+        (&[(13, 0, 8)], 1),
         (&[(13, 63, 256)], 1),
         (&[(1, 0, 256)], 2),
         (&[(6, 30, 256 * 38 + 27)], 2),
@@ -44,6 +46,7 @@ fn sentences() {
         (&[(8, 30, 256)], 2),
         (&[(13, 2, 256 * 15), (13, 4, 256 * 14)], 3),
         (&[(10, 2, 256 * 14 + 1), (11, 2, 256 * 15 + 1), (12, 2, 256 * 16 + 1)], 3),
+        (&[(13, 0, 13)], 3),
         (&[(9, 11, 512)], 4),
         (&[(9, 0, 512)], 4),
         (&[(9, 2, 768)], 4),
@@ -86,7 +89,7 @@ fn circles() {
 #[test]
 fn any_memory_is_refused_unchanged() {
     let mut random = Random::new(7);
-    for round in 0..300 {
+    for round in 0..250u32 {
         let length = match round % 4 {
             0 => random.below(200),
             1 => 64 * random.below(300),
@@ -98,7 +101,7 @@ fn any_memory_is_refused_unchanged() {
         for _ in 0..changed {
             let index = random.below(length);
             let address = 256 * random.below(50) as u32;
-            mem[index] = random.pick(&[0, 1, address, address + 1, address + 31, random_word(round)]).unwrap();
+            mem[index] = random.pick(&[0, 1, address, address + 1, address + 31, round * 0x0101_0101]).unwrap();
         }
         let damaged = sound(&mem).is_err();
         for number in 0..=12 {
@@ -109,13 +112,8 @@ fn any_memory_is_refused_unchanged() {
             if number > 0 && damaged {
                 assert_eq!(answer, Err(1));
             }
-            if answer.is_err() || number == 0 {
-                mem = before;
-            }
+            assert!(answer.is_ok() || mem == before);
+            mem = before;
         }
     }
-}
-
-fn random_word(round: u32) -> u32 {
-    round.wrapping_mul(2_654_435_761)
 }

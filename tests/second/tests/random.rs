@@ -2,9 +2,10 @@
 
 mod common;
 use common::*;
-use second::calls::ARGUMENTS;
+use second::damage::damage;
 use second::geometry::{PPage, Sizes};
 use second::make::make;
+use second::random::Random;
 use second::sound::sound;
 use second::tree::tree;
 use std::collections::BTreeSet;
@@ -80,7 +81,29 @@ fn every_refusal_comes_up() {
         let came: BTreeSet<_> = seen.iter().copied().filter(|pair| pair.0 == number).collect();
         assert_eq!(came, all);
     }
-    assert_eq!(ARGUMENTS.len(), 12);
+}
+
+#[test]
+fn any_sound_memory_stays_sound() {
+    let mut random = Random::new(11);
+    for (seed, pages) in [(6, 20), (7, 73), (8, 256)] {
+        let lines = make(seed, 2000, pages);
+        let mut mem = formatted(pages);
+        for part in lines.chunks(100) {
+            for _ in 0..20 {
+                let mut copy = mem.clone();
+                damage(&mem, &mut random).into_iter().for_each(|(index, value)| copy[index] = value);
+                let good = sound(&copy).is_ok();
+                for line in part.iter().filter(|line| good && line[0] != 0).take(20) {
+                    let _ = say(&mut copy, line);
+                    assert_eq!(sound(&copy), Ok(()), "{line:?}");
+                }
+            }
+            for line in part {
+                let _ = say(&mut mem, line);
+            }
+        }
+    }
 }
 
 #[test]

@@ -38,16 +38,21 @@ fn number(word: &str) -> io::Result<u32> {
     word.parse().map_err(|_| io::Error::other(format!("bad number: {word}")))
 }
 
+/// Bad page counts may be tried, within reason.
+fn page_count(word: &str) -> io::Result<usize> {
+    Some(number(word)? as usize).filter(|&pages| pages <= 4096).ok_or(io::Error::other("too many pages"))
+}
+
 /// The first line is the page count, each further line a call.
 fn read() -> io::Result<File> {
     let text = io::read_to_string(io::stdin())?;
     let mut lines = text.lines();
-    let pages = number(lines.next().unwrap_or("").trim())? as usize;
+    let pages = page_count(lines.next().unwrap_or("").trim())?;
     let mut calls = Vec::new();
     for line in lines {
         let numbers = line.split_whitespace().map(number).collect::<io::Result<Vec<u32>>>()?;
         // The argument count is asked of an empty memory, which every call refuses.
-        if pages > 4096 || numbers.is_empty() || call(&mut [], numbers[0], &numbers[1..]).is_none() {
+        if numbers.is_empty() || call(&mut [], numbers[0], &numbers[1..]).is_none() {
             return Err(io::Error::other(format!("bad line: {line}")));
         }
         calls.push(numbers);
@@ -81,8 +86,9 @@ fn hash(mem: &[u32]) -> u64 {
 }
 
 fn print_made(seed: &str, count: &str, pages: &str, out: &mut impl Write) -> io::Result<()> {
-    writeln!(out, "{}", number(pages)?)?;
-    for line in make(number(seed)?, number(count)? as usize, number(pages)? as usize) {
+    let pages = page_count(pages)?;
+    writeln!(out, "{pages}")?;
+    for line in make(number(seed)?, number(count)? as usize, pages) {
         let numbers: Vec<String> = line.iter().map(u32::to_string).collect();
         writeln!(out, "{}", numbers.join(" "))?;
     }

@@ -1,0 +1,172 @@
+"""Compares the definitions of crates/*/specs, run by antt.py, with the independent program of tests/second.
+
+  python3 tests/definitions/compare.py [--quick]
+
+Guided random calls at several sizes: answer and a hash of every word after each call. Changed words of a memory in use: the verdict on
+soundness. The slips of slips.txt, and scripts for replay, good and bad. Prints what was compared; exits with 1 at the first difference."""
+import os, random, subprocess, sys, threading
+
+from antt import Program, ap, check_shortcuts
+
+HERE = os.path.dirname(os.path.abspath(__file__))
+NAMES = ['formatAll', 'createPartition', 'deletePartition', 'addVAddr', 'removeVAddr', 'pageCount', 'prepare', 'collect', 'mappedInChild',
+         'enter', 'leave', 'load', 'store']
+MORNING = [20, 15, 12, 1, 256, 512, 768, 1024, 1280, 5, 256, 4096, 12, 1536, 1792, 12, 1792, 2048, 6, 256, 4096, 1536, 3, 2304, 256, 4096, 3,
+           8, 2304, 12, 256, 1, 9, 256, 12, 4100, 77, 10, 11, 2308, 4, 256, 4096, 7, 256, 4096, 2, 256]
+
+
+def differ(what, ours, theirs):
+    print('DIFFERENT: %s\n  definitions: %s\n  second:      %s' % (what, ours, theirs))
+    os._exit(1)
+
+
+def fingerprint(memory):
+    h = 0xcbf29ce484222325
+    for byte in b''.join(w.to_bytes(4, 'little') for w in memory):
+        h = ((h ^ byte) * 0x100000001b3) & 0xffffffffffffffff
+    return '%016x' % h
+
+
+class Definitions:
+    def __init__(self):
+        self.program = Program()
+        check_shortcuts(self.program)
+        sound, seen = self.program.get('soundness', 'Test', 'soundTest'), {}
+        # a call's answer and its effect ask soundness of the same memory
+        def once(b, m):
+            key = tuple(m)
+            if key not in seen:
+                seen.clear()
+                seen[key] = sound(b, m)
+            return seen[key]
+        self.program.functions['soundness', 'Test', 'soundTest'] = self.sound = once
+        self.answer = self.program.get('rules', 'Calls', 'answer')
+        self.after = self.program.get('rules', 'Calls', 'after')
+        self.replay = self.program.get('rules', 'Replay', 'replay')
+
+    def call(self, memory, numbers):
+        c = (NAMES[numbers[0]],) + tuple(numbers[1:])
+        answer = ap(self.answer, 6, memory, c)
+        return '%s %d' % answer, ap(self.after, 6, memory, c)
+
+
+def second(*args, stdin=b''):
+    return subprocess.run([os.path.join(TARGET, 'release', 'trace')] + [str(a) for a in args], input=stdin, stdout=subprocess.PIPE, check=True).stdout
+
+
+def run_file(definitions, lines):
+    """The lines that the second program's `run` prints, by the definitions; and the memory at the end."""
+    n = int(lines[0])
+    memory = [i * 2654435761 % 2 ** 32 for i in range(64 * n)]
+    out = []
+    for line in ['0'] + lines[1:]:
+        said, memory = definitions.call(memory, [int(x) for x in line.split()])
+        out.append('%s %s' % (said, fingerprint(memory)))
+    return out, memory
+
+
+def compare_calls(definitions, seed, count, n):
+    text = second('make', seed, count, n)
+    lines = text.decode().split('\n')[:-1]
+    ours, memory = run_file(definitions, lines)
+    theirs = second('run', stdin=text).decode().split('\n')[:-1]
+    for i, (a, b) in enumerate(zip(ours, theirs)):
+        if a != b:
+            differ('seed %d, N %d, call %d: %s' % (seed, n, i, (['0'] + lines[1:])[i]), a, b)
+    if len(ours) != len(theirs):
+        differ('lengths', len(ours), len(theirs))
+    kinds = {}
+    for line, said in zip(['0'] + lines[1:], ours):
+        key = NAMES[int(line.split()[0])], said.split()[0] + (' ' + said.split()[1] if said[0] == 'n' else '')
+        kinds[key] = kinds.get(key, 0) + 1
+    return text, memory, kinds
+
+
+def compare_damage(definitions, text, memory, seed, count):
+    verdicts = {}
+    for line in second('damage', seed, count, stdin=text).decode().split('\n')[:-1]:
+        *changes, verdict = line.replace('broken ', 'broken').split()
+        m = list(memory)
+        for i in range(0, len(changes), 2):
+            m[int(changes[i])] = int(changes[i + 1])
+        ours = ap(definitions.sound, 6, m)
+        if ours != (verdict == 'sound'):
+            differ('damage %s' % line, ours, verdict)
+        verdicts[verdict] = verdicts.get(verdict, 0) + 1
+    return verdicts
+
+
+def compare_slips(definitions):
+    lines = [l.strip() for l in open(os.path.join(HERE, 'slips.txt')) if l.strip() and l[0] != '#']
+    calls, wanted = [lines[0]], ['ok 0']
+    for l in lines[1:]:
+        c, a = l.split(' = ')
+        calls.append(c)
+        wanted.append(a)
+    ours, _ = run_file(definitions, calls)
+    theirs = second('run', stdin=('\n'.join(calls) + '\n').encode()).decode().split('\n')[:-1]
+    for c, w, a, b in zip(['0'] + calls[1:], wanted, ours, theirs):
+        if not a.startswith(w + ' ') or a != b:
+            differ('slips: %s (wanted %s)' % (c, w), a, b)
+    return len(wanted)
+
+
+def scripts():
+    """The morning; and it changed, cut, lengthened, with another offset."""
+    words = lambda ws: b''.join(w.to_bytes(4, 'little') for w in ws)
+    good = words(MORNING)
+    yield good
+    yield good[:11]
+    yield good[:-1]
+    yield good + b'\0'
+    yield words([20, 15, 14]) + b'xx' + good[12:]
+    yield words([20, 0, 12])
+    yield words([256, 0, 16, 9])
+    for i, x in [(0, 15), (0, 16), (0, 257), (1, 14), (1, 16), (2, 11), (2, 13), (2, 5000), (3, 0), (3, 13), (7, 2 ** 32 - 1)]:
+        yield words(MORNING[:i] + [x] + MORNING[i + 1:])
+    yield words([16, 1019, 20, 0, 0] + [10] * 1019)
+    yield words([16, 1019, 20, 0, 0] + [10] * 1019) + b'\0'
+    r = random.Random(7)
+    for _ in range(20):
+        m = list(MORNING)
+        for _ in range(3):
+            m[r.randrange(3, len(m))] = r.choice([0, 1, 7, 256, 512, 4096, 1048576, 2 ** 32 - 1])
+        yield words(m)
+
+
+def compare_replay(definitions):
+    n = 0
+    for s in scripts():
+        if len(s) > 2000 and len(s) <= 4096:
+            continue
+        ours, theirs = bytes(ap(definitions.replay, 6, list(s))), second('replay', stdin=s)
+        if ours != theirs:
+            differ('script %r' % s[:80], ours, theirs)
+        n += 1
+    return n
+
+
+def main():
+    quick = '--quick' in sys.argv
+    d = Definitions()
+    print('slips: %d calls agree' % compare_slips(d))
+    print('replay: %d scripts agree' % compare_replay(d))
+    total = {}
+    for seed, count, n in [(1, 150, 16), (2, 300, 20), (3, 300, 40)] if quick else [(1, 300, 16), (2, 600, 20), (3, 600, 40), (4, 400, 73), (5, 150, 140)]:
+        text, memory, kinds = compare_calls(d, seed, count, n)
+        verdicts = compare_damage(d, text, memory, seed, 60 if quick else 300)
+        print('N %d: %d calls agree; changed memories agree: %s' % (n, count, ', '.join('%s %d' % kv for kv in sorted(verdicts.items()))))
+        for k, v in kinds.items():
+            total[k] = total.get(k, 0) + v
+    print('calls by answer:')
+    for name in NAMES:
+        print('  %-16s %s' % (name, ', '.join('%s: %d' % (a, v) for (c, a), v in sorted(total.items()) if c == name)))
+
+
+TARGET = os.environ.get('CARGO_TARGET_DIR') or os.path.join(HERE, '..', 'second', 'target')
+subprocess.run(['cargo', 'build', '--release', '--quiet', '--offline'], cwd=os.path.join(HERE, '..', 'second'), check=True)
+sys.setrecursionlimit(10 ** 6)
+threading.stack_size(1 << 29)
+thread = threading.Thread(target=main)
+thread.start()
+thread.join()

@@ -1,0 +1,40 @@
+//! The command-line program, run as others run it.
+
+use std::io::Write;
+use std::process::{Command, Stdio};
+
+fn trace(arguments: &[&str], input: &str) -> String {
+    let mut child = Command::new(env!("CARGO_BIN_EXE_trace"))
+        .args(arguments)
+        .stdin(Stdio::piped())
+        .stdout(Stdio::piped())
+        .spawn()
+        .unwrap();
+    child.stdin.take().unwrap().write_all(input.as_bytes()).unwrap();
+    let output = child.wait_with_output().unwrap();
+    assert!(output.status.success());
+    String::from_utf8(output.stdout).unwrap()
+}
+
+#[test]
+fn run() {
+    // The hash of no bytes is the offset basis; of a formatted memory it is the same each time.
+    assert_eq!(trace(&["run"], "0\n"), "no 2 cbf29ce484222325\n");
+    let lines = trace(&["run"], "20\n1 256 512 768 1024 1280\n5 256 4096\n12 256 1\n0\n");
+    let lines: Vec<_> = lines.lines().map(|line| line.rsplit_once(' ').unwrap()).collect();
+    let answers: Vec<_> = lines.iter().map(|line| line.0).collect();
+    assert_eq!(answers, ["ok 0", "ok 0", "ok 3", "no 16", "ok 0"]);
+    assert!(lines[0].1 == lines[4].1 && lines[0].1 != lines[1].1 && lines[1].1 == lines[3].1);
+}
+
+#[test]
+fn make_cover_and_damage() {
+    let made = trace(&["make", "5", "300", "73"], "");
+    assert_eq!(made.lines().count(), 301);
+    assert_eq!(made, trace(&["make", "5", "300", "73"], ""));
+    assert_eq!(trace(&["run"], &made).lines().count(), 301);
+    assert_eq!(trace(&["cover"], &made).lines().count(), 14);
+    let damaged = trace(&["damage", "5", "200"], &made);
+    assert_eq!(damaged.lines().count(), 200);
+    assert!(damaged.contains(" sound\n") && damaged.contains(" broken 1\n"));
+}
