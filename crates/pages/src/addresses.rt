@@ -13,7 +13,7 @@ pub struct PhysicalPage(pub u32);
 pub struct VirtualPage(pub u32);
 
 // The field of x above its lowest n bits.
-pub fn high(x: u32, n: u32) -> u32
+fn high(x: u32, n: u32) -> u32
     requires { ⌜ n < 32 ⌝ }
     ensures { λ r. ⌜ r ≡ x / 2 ^ n ⌝ }
 {
@@ -21,7 +21,7 @@ pub fn high(x: u32, n: u32) -> u32
 }
 
 // The field of the lowest n bits of x.
-pub fn low(x: u32, n: u32) -> u32
+fn low(x: u32, n: u32) -> u32
     requires { ⌜ n < 32 ⌝ }
     ensures { λ r. ⌜ r ≡ x % 2 ^ n ⌝ }
 {

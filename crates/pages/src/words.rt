@@ -23,7 +23,7 @@ pub fn write(m: &mut [u32], i: usize, x: u32)
     }
 }
 
-// "page k is words 64k to 64k+63": where word i of page p stands. 42 bits hold it, so it is worked out in 64.
+// "page k is words 64k to 64k+63": where word i of page p stands. Up to 43 bits hold it, so it is worked out in 64.
 pub fn index(b: u32, p: PhysicalPage, i: u32) -> usize
     requires { ⌜ Width b ⌝ }
     ensures { λ r. ⌜ (r ≡ Words.index b (p .0) i) × (r < 8796093022208) ⌝ }

@@ -4,19 +4,13 @@ use mathlib.Core.Path.{ap, _∙_}
 use borrow.Author.Needs.{needs}
 use Rattle.pages.proofs.addresses.place.Statement.{statement}
 use Rattle.pages.proofs.addresses.place.Tie as tie
-use Rattle.pages.proofs.addresses.place.Reads as reads
-use Rattle.pages.proofs.addresses.place.Lts as lts
-use Rattle.pages.proofs.addresses.low.Reads as low-reads
 
--- src/addresses.rt:68:12
 add-low : tie.Need-add-low
 add-low c = search needs
 
--- src/addresses.rt:68:5
 low-requires : tie.Need-low-requires
 low-requires c κs = search needs
 
--- src/addresses.rt:64:1
 returns : tie.Need-returns
 returns c = c .low .ensures ∙ ap (λ (x : ℕ). c .before .args .a % x) (bytes-is (c .before .args .b))
 

@@ -8,8 +8,6 @@ use native.Mathlib.Omega.{arith}
 use lib.ListN.{length, set, drop, replicate, length-set}
 use Rattle.pages.proofs.parts.clear.Statement.{statement}
 use Rattle.pages.proofs.parts.clear.Tie as tie
-use Rattle.pages.proofs.parts.clear.Reads as reads
-use Rattle.pages.proofs.parts.clear.Lts as lts
 
 abbrev Inv-loop : tie.InvT-loop
 Inv-loop s₀ i₀ s i = (s ≡ replicate i 0 ++ drop i s₀) × (i ≤ length s₀) × (length s ≡ length s₀)

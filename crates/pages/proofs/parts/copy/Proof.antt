@@ -7,9 +7,6 @@ use Rattle.memory.specs.Words.{overwrite}
 use Rattle.memory.proofs.Overwrite.{copy-none, copy-more, copy-all}
 use Rattle.pages.proofs.parts.copy.Statement.{statement}
 use Rattle.pages.proofs.parts.copy.Tie as tie
-use Rattle.pages.proofs.parts.copy.Reads as reads
-use Rattle.pages.proofs.parts.copy.Lts as lts
-use Rattle.pages.proofs.parts.least.Reads as least-reads
 
 abbrev Inv-loop : tie.InvT-loop
 Inv-loop s₀ ws n i₀ s i = (s ≡ overwrite s₀ 0 (take i ws)) × (i ≤ n) × (length s ≡ length s₀)
@@ -17,50 +14,39 @@ Inv-loop s₀ ws n i₀ s i = (s ≡ overwrite s₀ 0 (take i ws)) × (i ≤ n) 
 abbrev μ-loop : tie.MeasureT-loop
 μ-loop s₀ ws n i₀ s i = n - i
 
--- src/lib.rt:268:9
 least-requires : tie.Need-least-requires Inv-loop μ-loop
 least-requires c κs = search needs
 
--- src/lib.rt:270:5
 loop-holds : tie.Need-loop-holds Inv-loop μ-loop
 loop-holds c = (copy-none (c .before .before .before .args .s .now) (c .before .before .before .args .ws .now), search needs, search needs)
 
--- src/lib.rt:271:16
 mul-s : tie.Need-mul-s Inv-loop μ-loop
 mul-s c = search needs
 
--- src/lib.rt:271:16
 shared-slice-read-s : tie.Need-shared-slice-read-s Inv-loop μ-loop
 shared-slice-read-s c = search needs
 
--- src/lib.rt:271:9
 mul-s-2 : tie.Need-mul-s-2 Inv-loop μ-loop
 mul-s-2 c = search needs
 
--- src/lib.rt:271:9
 slice-write-s : tie.Need-slice-write-s Inv-loop μ-loop
 slice-write-s c = search needs
 
--- src/lib.rt:272:9
 add-i : tie.Need-add-i Inv-loop μ-loop
 add-i c = search needs
 
--- src/lib.rt:270:5
 loop-less : tie.Need-loop-less Inv-loop μ-loop
 loop-less c = search needs
 
--- src/lib.rt:270:5
 loop-again : tie.Need-loop-again Inv-loop μ-loop
 loop-again c =
     let p = c .before .before .loop in
     let a = c .before .before .before .before .before .before .args in
     (copy-more (a .s .now) (p .s) (p .i) (a .ws .now) (omega arith) (omega arith) (p .inv .0), omega arith, length-set (p .s) (p .i) _ ∙ p .inv .2)
 
--- src/lib.rt:265:1
 same-length : tie.Need-same-length Inv-loop μ-loop
 same-length c = search needs
 
--- src/lib.rt:265:1
 returns : tie.Need-returns Inv-loop μ-loop
 returns c =
     let p = c .before .loop in

@@ -3,58 +3,40 @@ use native.Mathlib.Omega.{arith}
 use borrow.Author.Needs.{needs}
 use Rattle.pages.proofs.parts.fill_page.Statement.{statement}
 use Rattle.pages.proofs.parts.fill_page.Tie as tie
-use Rattle.pages.proofs.parts.fill_page.Reads as reads
-use Rattle.pages.proofs.parts.fill_page.Lts as lts
-use Rattle.pages.proofs.parts.copy.Reads as copy-reads
-use Rattle.pages.proofs.parts.least.Reads as least-reads
-use Rattle.pages.proofs.widths.page_words.Reads as page-words-reads
-use Rattle.pages.proofs.words.index.Reads as index-reads
 
--- src/parts.rt:58:19
 index-requires : tie.Need-index-requires
 index-requires c κs = search needs
 
--- src/parts.rt:58:9
 least-requires : tie.Need-least-requires
 least-requires c κs = search needs
 
--- src/parts.rt:59:31
 page-words-requires : tie.Need-page-words-requires
 page-words-requires c κs = search needs
 
--- src/parts.rt:59:19
 index-requires-2 : tie.Need-index-requires-2
 index-requires-2 c κs = search needs
 
--- src/parts.rt:59:9
 least-requires-2 : tie.Need-least-requires-2
 least-requires-2 c κs = search needs
 
--- src/parts.rt:60:10
 mul-copy : tie.Need-mul-copy
 mul-copy c = search needs
 
--- src/parts.rt:60:10
 sub-copy : tie.Need-sub-copy
 sub-copy c = search needs
 
--- src/parts.rt:60:10
 part-copy-start : tie.Need-part-copy-start
 part-copy-start c = search needs
 
--- src/parts.rt:60:10
 part-copy-end : tie.Need-part-copy-end
 part-copy-end c = search needs
 
--- src/parts.rt:60:5
 copy-requires : tie.Need-copy-requires
 copy-requires c κs = search needs
 
--- src/parts.rt:53:1
 same-length : tie.Need-same-length
 same-length c = search needs
 
--- src/parts.rt:53:1
 returns : tie.Need-returns
 returns c =
     let s = c .before .before .before .before .before .before .before .before .before .before .before in

@@ -3,40 +3,27 @@ use mathlib.Core.Path.{sym}
 use borrow.Author.Needs.{needs}
 use Rattle.pages.proofs.tables.table_word.Statement.{statement}
 use Rattle.pages.proofs.tables.table_word.Tie as tie
-use Rattle.pages.proofs.tables.table_word.Reads as reads
-use Rattle.pages.proofs.tables.table_word.Lts as lts
-use Rattle.pages.proofs.addresses.directory_index.Reads as directory-index-reads
-use Rattle.pages.proofs.addresses.page_of.Reads as page-of-reads
-use Rattle.pages.proofs.addresses.table_index.Reads as table-index-reads
-use Rattle.pages.proofs.words.read_word.Reads as read-word-reads
 
--- src/tables.rt:18:35
 directory-index-requires : tie.Need-directory-index-requires
 directory-index-requires c κs = search needs
 
--- src/tables.rt:18:9
 read-word-requires : tie.Need-read-word-requires
 read-word-requires c κs = search needs
 
--- src/tables.rt:20:9
 returns : tie.Need-returns
 returns c =
     let s = c .before .before .before .before .args in
     sym (tableWord-absent (s .b) (s .m .now) (s .root .0) (s .v .0) (cc))
 
--- src/tables.rt:22:21
 page-of-requires : tie.Need-page-of-requires
 page-of-requires c κs = search needs
 
--- src/tables.rt:22:36
 table-index-requires : tie.Need-table-index-requires
 table-index-requires c κs = search needs
 
--- src/tables.rt:22:5
 read-word-requires-2 : tie.Need-read-word-requires-2
 read-word-requires-2 c κs = search needs
 
--- src/tables.rt:14:1
 returns-2 : tie.Need-returns-2
 returns-2 c =
     let s = c .before .before .before .before .before .before .before .args in

@@ -3,19 +3,13 @@ use native.Mathlib.Omega.{arith}
 use borrow.Author.Needs.{needs}
 use Rattle.pages.proofs.widths.page_bytes.Statement.{statement}
 use Rattle.pages.proofs.widths.page_bytes.Tie as tie
-use Rattle.pages.proofs.widths.page_bytes.Reads as reads
-use Rattle.pages.proofs.widths.page_bytes.Lts as lts
-use Rattle.pages.proofs.widths.page_words.Reads as page-words-reads
 
--- src/widths.rt:30:9
 page-words-requires : tie.Need-page-words-requires
 page-words-requires c κs = search needs
 
--- src/widths.rt:30:5
 mul-result : tie.Need-mul-result
 mul-result c = search needs
 
--- src/widths.rt:26:1
 returns : tie.Need-returns
 returns c = (omega arith, omega (arith, words-least (c .before .args .b) (c .before .pre .0)), omega arith)
 

@@ -3,14 +3,10 @@ use native.Mathlib.Omega.{arith}
 use borrow.Author.Needs.{needs}
 use Rattle.pages.proofs.widths.page_words.Statement.{statement}
 use Rattle.pages.proofs.widths.page_words.Tie as tie
-use Rattle.pages.proofs.widths.page_words.Reads as reads
-use Rattle.pages.proofs.widths.page_words.Lts as lts
 
--- src/widths.rt:22:5
 shl-result : tie.Need-shl-result
 shl-result c = search needs
 
--- src/widths.rt:18:1
 returns : tie.Need-returns
 returns c =
     let e = one-shl (c .args .b) (c .pre .1) in

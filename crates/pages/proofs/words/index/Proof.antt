@@ -5,22 +5,16 @@ use mathlib.Core.Path.{ap}
 use borrow.Author.Needs.{needs}
 use Rattle.pages.proofs.words.index.Statement.{statement}
 use Rattle.pages.proofs.words.index.Tie as tie
-use Rattle.pages.proofs.words.index.Reads as reads
-use Rattle.pages.proofs.words.index.Lts as lts
 
--- src/words.rt:32:7
 cast-result : tie.Need-cast-result
 cast-result c = search needs
 
--- src/words.rt:32:6
 shl-result : tie.Need-shl-result
 shl-result c = search needs
 
--- src/words.rt:32:5
 add-result : tie.Need-add-result
 add-result c = omega (arith, page-shl (c .before .args .b) (c .before .args .p .0) (c .before .pre .1) (omega arith), page-start-lt (c .before .args .b) (c .before .args .p .0) (c .before .pre .1) (omega arith))
 
--- src/words.rt:28:1
 returns : tie.Need-returns
 returns c =
     let e = page-shl (c .before .args .b) (c .before .args .p .0) (c .before .pre .1) (omega arith) in

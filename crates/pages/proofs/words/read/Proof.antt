@@ -3,22 +3,16 @@ use mathlib.Core.Path.{sym}
 use borrow.Author.Needs.{needs}
 use Rattle.pages.proofs.words.read.Statement.{statement}
 use Rattle.pages.proofs.words.read.Tie as tie
-use Rattle.pages.proofs.words.read.Reads as reads
-use Rattle.pages.proofs.words.read.Lts as lts
 
--- src/words.rt:15:22
 mul-result : tie.Need-mul-result
 mul-result c = search needs
 
--- src/words.rt:15:22
 shared-slice-read-result : tie.Need-shared-slice-read-result
 shared-slice-read-result c = search needs
 
--- src/words.rt:12:1
 returns : tie.Need-returns
 returns c = search needs
 
--- src/words.rt:12:1
 returns-2 : tie.Need-returns-2
 returns-2 c = sym (List·getD-eq-default (c .before .args .m .now) 0 (c .if1 .left))
 

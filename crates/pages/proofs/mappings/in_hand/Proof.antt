@@ -3,39 +3,28 @@ use native.Mathlib.Omega.{arith}
 use Prim.Native.Nat.{ℕ}
 use mathlib.Core.Path.{_≡_, sym, ap, _∙_}
 use borrow.Author.Needs.{needs}
-use Rattle.pages.proofs.tables.in_hand.Statement.{statement}
-use Rattle.pages.proofs.tables.in_hand.Tie as tie
-use Rattle.pages.proofs.tables.in_hand.Reads as reads
-use Rattle.pages.proofs.tables.in_hand.Lts as lts
-use Rattle.pages.proofs.entries.accessible.Reads as accessible-reads
-use Rattle.pages.proofs.tables.lent.Reads as lent-reads
-use Rattle.pages.proofs.tables.mapping.Reads as mapping-reads
+use Rattle.pages.proofs.mappings.in_hand.Statement.{statement}
+use Rattle.pages.proofs.mappings.in_hand.Tie as tie
 
--- src/tables.rt:169:9
 mapping-requires : tie.Need-mapping-requires
 mapping-requires c κs = search needs
 
--- src/tables.rt:171:9
 returns : tie.Need-returns
 returns c =
     let s = c .before .before .before .args in
     sym (hand-absent (s .b) (s .m .now) (s .d .0) (s .a) (cc))
 
--- src/tables.rt:173:8
 accessible-requires : tie.Need-accessible-requires
 accessible-requires c κs = search needs
 
--- src/tables.rt:174:9
 returns-2 : tie.Need-returns-2
 returns-2 c =
     let s = c .before .before .before .before .before .args in
     sym (hand-shut (s .b) (s .m .now) (s .d .0) (s .a) (λ e. c .before .before .if1 .left (cc)) (λ e. c .if2 .taken (cc)))
 
--- src/tables.rt:176:5
 lent-requires : tie.Need-lent-requires
 lent-requires c κs = search needs
 
--- src/tables.rt:165:1
 returns-3 : tie.Need-returns-3
 returns-3 c =
     let s = c .before .before .before .before .before .before .args in
