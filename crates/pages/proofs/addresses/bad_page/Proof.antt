@@ -1,0 +1,18 @@
+use Rattle.rules.specs.Conditions.{badAddress}
+use Prim.Native.Nat.{ℕ}
+use mathlib.Core.Path.{ap, _∙_}
+use borrow.Author.Needs.{needs}
+use Rattle.pages.proofs.addresses.bad_page.Statement.{statement}
+use Rattle.pages.proofs.addresses.bad_page.Tie as tie
+
+page-bytes-requires : tie.Need-page-bytes-requires
+page-bytes-requires c κs = search needs
+
+bad-address-requires : tie.Need-bad-address-requires
+bad-address-requires c κs = search needs
+
+returns : tie.Need-returns
+returns c = c .bad-address .ensures ∙ ap (λ (u : ℕ). badAddress (c .before .before .args .b) u (c .before .before .args .a)) (c .before .page-bytes .ensures .0)
+
+pub bad-page-spec : {M : Type 1} → statement M
+bad-page-spec = tie.close (tie.spec page-bytes-requires bad-address-requires returns)
