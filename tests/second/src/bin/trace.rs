@@ -5,11 +5,12 @@ use second::damage::{damage, second_use};
 use second::geometry::PAGE_WORDS;
 use second::make::make;
 use second::random::Random;
+use second::replay::replay;
 use second::sound::sound;
 use std::collections::BTreeMap;
-use std::io::{self, BufWriter, Write};
+use std::io::{self, BufWriter, Read, Write};
 
-const USAGE: &str = "trace run | trace make SEED COUNT N | trace cover | trace damage SEED COUNT [wide]";
+const USAGE: &str = "trace run | trace make SEED COUNT N | trace cover | trace damage SEED COUNT [wide] | trace replay";
 
 struct File {
     pages: usize,
@@ -26,12 +27,20 @@ fn main() {
         ["make", seed, count, pages] => print_made(seed, count, pages, &mut out),
         ["damage", seed, count] => print_damaged(seed, count, false, &mut out),
         ["damage", seed, count, "wide"] => print_damaged(seed, count, true, &mut out),
+        ["replay"] => print_replayed(&mut out),
         _ => Err(io::Error::other(USAGE)),
     };
     if let Err(error) = done.and_then(|()| out.flush()) {
         eprintln!("{error}");
         std::process::exit(2);
     }
+}
+
+/// The transcript of the script on standard input.
+fn print_replayed(out: &mut impl Write) -> io::Result<()> {
+    let mut script = Vec::new();
+    io::stdin().lock().read_to_end(&mut script)?;
+    out.write_all(&replay(&script))
 }
 
 fn number(word: &str) -> io::Result<u32> {

@@ -1,0 +1,63 @@
+-- The test of soundness as the code makes it: each table word is looked at once, and nothing is searched for. It agrees with the test of the crate
+-- soundness, sentence by sentence (proofs/). Two sentences are told from counts: that no page but the children's kernel pages is inaccessible and not
+-- lent, from the number of such pages; that a lent page is mapped in its child once, from each page having exactly one use. Assumes nothing.
+use mathlib.Core.List.{List}
+use mathlib.Core.Bool.{Bool, true, cond, not, _&&_, _||_}
+use Prim.Native.Nat.{ℕ, _+_, _*_}
+use lib.Dec.{leb, ltb, eqb}
+use lib.ListN.{length}
+use Rattle.walk.specs.Lists.{sumOf}
+use Rattle.walk.specs.Finite.{from, all, keep}
+use Rattle.walk.specs.Walk as W
+use Rattle.memory.specs.Geometry.{pageWords, pageOf, mostThrees, mostDepth}
+use Rattle.memory.specs.Words.{word}
+use Rattle.memory.specs.Entry.{entry, accessible, rights}
+use Rattle.memory.specs.Partition.{pages, current, parent, threes, tableFor, mapping, lent, above}
+use Rattle.memory.specs.Counts.{tabled, childAt, childOf, children}
+use Rattle.soundness.specs.Test.{virtual, headerTest, descriptorTest, directoryTest, listTest, rootTest, threesTest, childTest, fromParent, kernelShut, own, judged, under}
+
+module _ (b : ℕ) (m : List ℕ) where
+  -- a page table word that is not 0: a page of the memory, and no bit but those of accessible and rights
+  unfoldable pub entryTest : ℕ → Bool
+  entryTest w = eqb (entry b (pageOf b w) (accessible w) (rights w)) w && ltb (pageOf b w) (pages b m)
+
+  -- a child stands at v of d. Its list has no more than ten threes, so that no more pairs are looked at on any memory.
+  unfoldable pub childCell : ℕ → ℕ → Bool
+  childCell d v =
+      leb (threes b m (childOf b m d v)) mostThrees && childTest b m d v (childOf b m d v) && kernelShut b m d (childOf b m d v)
+
+  -- the page of d at v is lent: to a child of d
+  unfoldable pub lentCell : ℕ → ℕ → Bool
+  lentCell d v = virtual b (lent b m d v) && not (eqb (tableFor b m d (lent b m d v)) 0) && childAt b m d (lent b m d v)
+
+  -- what shadow 1 says of a mapping of d at v
+  unfoldable pub shadow1Cell : ℕ → ℕ → Bool
+  shadow1Cell d v = cond (eqb (lent b m d v) 0) true (cond (eqb (lent b m d v) 1) (childCell d v) (lentCell d v))
+
+  -- the three table words of d at v; a mapping of a partition but the root comes from its parent
+  unfoldable pub cell : ℕ → ℕ → Bool
+  cell d v =
+      cond (eqb (mapping b m d v) 0) (eqb (lent b m d v) 0 && eqb (above b m d v) 0)
+      (entryTest (mapping b m d v) && virtual b (above b m d v) && shadow1Cell d v
+      && (eqb d 1 || fromParent b m (parent b m d) (word b m d 0) d v))
+
+  -- a page of d that is neither lent nor accessible; how many there are, and how many kernel pages d's children have
+  unfoldable pub shutCell : ℕ → ℕ → Bool
+  shutCell d v = not (eqb (mapping b m d v) 0) && leb (lent b m d v) 1 && eqb (accessible (mapping b m d v)) 0
+
+  unfoldable pub shutCount : ℕ → ℕ
+  shutCount d = length (keep (shutCell d) (tabled b m d))
+
+  unfoldable pub dueCount : ℕ → ℕ
+  dueCount d = sumOf (λ c. 5 + 3 * threes b m c) (children b m d)
+
+  -- what is asked of a partition before its pages are marked
+  unfoldable pub partitionTest : ℕ → Bool
+  partitionTest d =
+      descriptorTest b m d && all (directoryTest b m d) (from (pageWords b) 0) && listTest b m d && threesTest b m d
+      && all (cell d) (tabled b m d) && eqb (mapping b m d 0) 0 && eqb (shutCount d) (dueCount d)
+
+  unfoldable pub quickTest : Bool
+  quickTest =
+      headerTest b m && rootTest b m && judged b m (W.judge (children b m) (own b m) partitionTest mostDepth (W.clear (pages b m)) 1)
+      && under b m mostDepth (current b m)
