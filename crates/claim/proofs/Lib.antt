@@ -1,2 +1,9 @@
 pub mod Size
 pub mod Barred
+pub mod Formatted
+pub mod Places
+pub mod Sharing
+pub mod Closed
+pub mod Access
+pub mod Kept
+pub mod Permitted
