@@ -1,6 +1,7 @@
 pub mod Size
 pub mod Barred
 pub mod Formatted
+pub mod Pages
 pub mod Places
 pub mod Sharing
 pub mod Closed
