@@ -80,28 +80,33 @@ module _ (b : ℕ) (m : List ℕ) where
 
   -- ---- from the sentences to the walk
 
-  mapped-has : (d v : ℕ) → Virtual b v → mapping b m d v ≢ 0 → Has b m d v
+  pub mapped-has : (d v : ℕ) → Virtual b v → mapping b m d v ≢ 0 → Has b m d v
   unfolding tableWord
   mapped-has d v h n = record { virtual = h; table = λ e. n (rw (eq-eqb (tableFor b m d v) 0 e) refl) }
 
   module _ (s : S.Sound b m) where
-    above-has : {k d v c : ℕ} → InTree b m k d → Child b m d v c → (u : ℕ) → Has b m c u → mapping b m c u ≢ 0 → Has b m d (above b m c u)
+    pub above-has : {k d v c : ℕ} → InTree b m k d → Child b m d v c → (u : ℕ) → Has b m c u → mapping b m c u ≢ 0 → Has b m d (above b m c u)
     above-has {k} {d} {v} {c} t h u a n = mapped-has d (above b m c u) (s .forms (suc k) c (child t h) .tables u a .shadow2Word) (s .lending k d t .down v c h u a n .mapped)
 
-    -- a page mapped in the tree is a flat page
-    flat : {k d : ℕ} → InTree b m k d → (v : ℕ) → Has b m d v → mapping b m d v ≢ 0 → 5 + 3 * threesFor b (pages b m) < pageOf b (mapping b m d v)
-    flat root v h n = elim (decLt 0 (pageOf b v)) [
+    -- the root maps at v the flat page of that number
+    pub root-flat : (v : ℕ) → Has b m 1 v → mapping b m 1 v ≢ 0
+        → (0 < pageOf b v) × (pageOf b (mapping b m 1 v) ≡ 5 + 3 * threesFor b (pages b m) + pageOf b v)
+    root-flat v h n = elim (decLt 0 (pageOf b v)) [
       | yes p ↦ elim (decLt (flatPages b (pages b m)) (pageOf b v)) [
         | yes q ↦ absurd (n (s .rootAsFormatted .only v h (λ (x, y). omega arith)))
-        | no q ↦ let (e, f) = s .rootAsFormatted .maps v h (omega arith, omega arith) in omega (arith, e)
+        | no q ↦ (p, s .rootAsFormatted .maps v h (omega arith, omega arith) .0)
       ]
       | no p ↦ absurd (n (s .rootAsFormatted .only v h (λ (x, y). omega arith)))
     ]
+
+    -- a page mapped in the tree is a flat page
+    pub flat : {k d : ℕ} → InTree b m k d → (v : ℕ) → Has b m d v → mapping b m d v ≢ 0 → 5 + 3 * threesFor b (pages b m) < pageOf b (mapping b m d v)
+    flat root v h n = let (l, e) = root-flat v h n in omega (arith, l, e)
     flat (child {k = k} {d = d} {v = v} {c = c} t a) u h n =
         let q = s .lending k d t .down v c a u h n in
         omega (arith, flat t (above b m c u) (above-has t a u h n) (q .mapped), q .page)
 
-    small : {k d : ℕ} → InTree b m k d → (v : ℕ) → Has b m d v → mapping b m d v ≢ 0 → pageOf b (mapping b m d v) < pages b m
+    pub small : {k d : ℕ} → InTree b m k d → (v : ℕ) → Has b m d v → mapping b m d v ≢ 0 → pageOf b (mapping b m d v) < pages b m
     small {k} {d} t v h n = s .forms k d t .tables v h .tableWord n .1
 
     part-inside : {k d : ℕ} → InTree b m k d → (0 < d) × (d < pages b m)

@@ -1,0 +1,10 @@
+pub mod Size
+pub mod Barred
+pub mod Formatted
+pub mod Pages
+pub mod Places
+pub mod Sharing
+pub mod Closed
+pub mod Access
+pub mod Kept
+pub mod Permitted
