@@ -10,7 +10,7 @@ use Rattle.model.specs.Base.{eqd, both, upd-same, upd-other, upd2-same, 
 use Rattle.model.specs.Words.{W, addr, put, idx, off, pte, pageOf, accOf, rightsOf, pte-nz}
 use Rattle.model.specs.Abs.{Kind, pt, s1, s2, desc, tab, Three, Abs, headV, Seen, seek, threeAt, Sub, Good, WF, Cells, Encodes, isHand, lentWord, seenWord, cell}
 use Rattle.model.specs.Facts.{seek-here, seek-on, none-some, some-inj, not-hand, below-is}
-use Rattle.model.specs.Read.{tablePage, entry, entry-is, entry-three, table-page, threePage, maps-three, cell-none, cell-some, kernel-lt, hand-view, child-view}
+use Rattle.model.specs.Read.{tablePage, tableAt, three-there, entryAt, entry-is, entry-three, maps-three, cell-none, cell-some, kernel-lt, hand-view, child-view}
 use Rattle.model.specs.Cells.{updC, updC-same, updC-other, put-cell, tab-one, rechained}
 use Rattle.model.specs.Add.{AddPre, newHop, addA, add-keep, add-keep-desc, add-new, add-wf}
 
@@ -151,8 +151,8 @@ module _ (b : ℕ) where
   -- document 01's effect, on the words: the caller's descriptor is page o, the arguments are page numbers
   unfoldable pub addM : List ℕ → ℕ → ℕ → ℕ → ℕ → ℕ → List ℕ
   addM m o vp vc t r =
-      let c : ℕ = pageOf b (entry b m pt o vc) in
-      let p : ℕ = pageOf b (entry b m pt o vp) in
+      let c : ℕ = pageOf b (entryAt b m pt o vc) in
+      let p : ℕ = pageOf b (entryAt b m pt o vp) in
       put b (put b (put b m (tablePage b m pt c t) (off b t) (pte b p true r)) (tablePage b m s2 c t) (off b t) (addr b vp)) (tablePage b m s1 o vp) (off b vp) (addr b vc)
 
   -- document 01's checks, on the words
@@ -162,25 +162,17 @@ module _ (b : ℕ) where
     pub t-fits : idx b t < W b
     pub t-some : t ≢ 0
     pub rights : r < 8
-    pub child : entry b m s1 o vc ≡ 1
-    pub acc : accOf (entry b m pt o vp) ≡ 1
-    pub unlent : entry b m s1 o vp ≡ 0
-    pub held : Sub r (rightsOf (entry b m pt o vp))
-    pub three : tablePage b m pt (pageOf b (entry b m pt o vc)) t ≢ 0
-    pub free : entry b m pt (pageOf b (entry b m pt o vc)) t ≡ 0
+    pub child : entryAt b m s1 o vc ≡ 1
+    pub acc : accOf (entryAt b m pt o vp) ≡ 1
+    pub unlent : entryAt b m s1 o vp ≡ 0
+    pub held : Sub r (rightsOf (entryAt b m pt o vp))
+    pub three : tableAt b m pt (pageOf b (entryAt b m pt o vc)) t ≢ 0
+    pub free : entryAt b m pt (pageOf b (entryAt b m pt o vc)) t ≡ 0
 
 module _ {b : ℕ} (wide : 6 ≤ b) where
   module _ (N : ℕ) (fl : ℕ → Option ℕ) (f m : List ℕ) (A : Abs) (wf : WF b N fl A) (en : Encodes b N f m A) (o : ℕ) (lo : A .role o ≡ desc) where
-    read : (k : Kind) (d v : ℕ) → A .role d ≡ desc → idx b v < W b → entry b m k d v ≡ cell b A k d v
+    read : (k : Kind) (d v : ℕ) → A .role d ≡ desc → idx b v < W b → entryAt b m k d v ≡ cell b A k d v
     read = entry-is wide N fl A wf f m en
-
-    three-there : (d v : ℕ) → A .role d ≡ desc → idx b v < W b → tablePage b m pt d v ≢ 0 → (th : Three) × (threeAt (idx b v) (A .threes d) ≡ some th)
-    unfolding threePage
-    three-there d v l β h = go (threeAt (idx b v) (A .threes d)) refl
-      where
-        go : (x : Option Three) → threeAt (idx b v) (A .threes d) ≡ x → (th : Three) × (threeAt (idx b v) (A .threes d) ≡ some th)
-        go none e = absurd (h (table-page wide N fl A wf f m (cell b A) en pt d v l β ∙ ap (threePage pt) e))
-        go (some th) e = (th, e)
 
     free-there : (d v : ℕ) → cell b A pt d v ≡ 0 → A .maps d v ≡ none
     unfolding seenWord
@@ -197,19 +189,19 @@ module _ {b : ℕ} (wide : 6 ≤ b) where
       pub p : ℕ
       pub c : ℕ
       pub pre : AddPre b A o p c t r
-      pub p-is : pageOf b (entry b m pt o vp) ≡ p
-      pub c-is : pageOf b (entry b m pt o vc) ≡ c
+      pub p-is : pageOf b (entryAt b m pt o vp) ≡ p
+      pub c-is : pageOf b (entryAt b m pt o vc) ≡ c
       pub vp-is : pre .hop .vp ≡ vp
       pub vc-is : pre .chop .vp ≡ vc
 
     pub add-view : (vp vc t r : ℕ) → AddChecks b m o vp vc t r → AddView vp vc t r
     add-view vp vc t r ck =
-        let rp : (k : Kind) → entry b m k o vp ≡ cell b A k o vp = λ k. read k o vp lo (ck .vp-fits) in
-        let rc : (k : Kind) → entry b m k o vc ≡ cell b A k o vc = λ k. read k o vc lo (ck .vc-fits) in
+        let rp : (k : Kind) → entryAt b m k o vp ≡ cell b A k o vp = λ k. read k o vp lo (ck .vp-fits) in
+        let rc : (k : Kind) → entryAt b m k o vc ≡ cell b A k o vc = λ k. read k o vc lo (ck .vc-fits) in
         let hv = hand-view wide N fl A wf o vp (rw (rp pt) at (ck .acc)) (sym (rp s1) ∙ ck .unlent) in
         let cv = child-view wide N fl A wf o vc (sym (rc s1) ∙ ck .child) in
-        let c-is : pageOf b (entry b m pt o vc) ≡ cv .0 = ap (pageOf b) (rc pt) ∙ cv .2 .page in
-        let th = three-there (cv .0) t (cv .1) (ck .t-fits) (rw c-is at (ck .three)) in
+        let c-is : pageOf b (entryAt b m pt o vc) ≡ cv .0 = ap (pageOf b) (rc pt) ∙ cv .2 .page in
+        let th = three-there wide N fl A wf f m (cell b A) en pt (cv .0) t (cv .1) (ck .t-fits) (rw c-is at (ck .three)) in
         record {
           p = hv .0;
           c = cv .0;
@@ -254,7 +246,7 @@ module _ {b : ℕ} (wide : 6 ≤ b) where
         (put-cell wide N f A one _ _ s2 c t _ _ (β .1) (lt _ _ _ _ (β .1))
         (put-cell wide N f A one _ _ pt c t _ _ (a .1) (lt _ _ _ _ (a .1)) en))))
 
-    add-is : (vp vc t r p c u w : ℕ) → pageOf b (entry b m pt o vp) ≡ p → pageOf b (entry b m pt o vc) ≡ c → u ≡ vp → w ≡ vc
+    add-is : (vp vc t r p c u w : ℕ) → pageOf b (entryAt b m pt o vp) ≡ p → pageOf b (entryAt b m pt o vc) ≡ c → u ≡ vp → w ≡ vc
         → addM b m o vp vc t r ≡ put b (put b (put b m (tablePage b m pt c t) (off b t) (pte b p true r)) (tablePage b m s2 c t) (off b t) (addr b u)) (tablePage b m s1 o u) (off b u) (addr b w)
     unfolding addM
     add-is vp vc t r p c u w a β e g = rw (a, β, e, g) refl

@@ -1,14 +1,15 @@
 -- Words of tables are set one at a time: the memory then stands for the old state with another function of cells.
 use mathlib.Core.Path.{_≡_, refl, sym, ap, _∙_}
 use mathlib.Core.Bool.{Bool, true, false}
-use mathlib.Core.Option.{Option}
+use mathlib.Core.Option.{Option, some}
 use mathlib.Core.List.{List, [], _∷_}
 use Prim.Native.Nat.{ℕ, zero, suc, _+_, _*_, _≤_, _<_}
 use native.Mathlib.Omega.{arith}
 use lib.ListN.{length, getD}
 use Rattle.model.specs.Base.{eqd, both, pick, pick-yes, pick-no}
 use Rattle.model.specs.Words.{W, word, put, join, idx, off, put-sized, word-put-same, word-put-other, off-lt, join-cut, idx-join, off-join}
-use Rattle.model.specs.Abs.{Kind, pt, s1, s2, Role, header, hand, blank, desc, root, lst, tab, Hop, Three, Abs, Tabs, WF, Cells, Encodes, EncodesC, isHand, cell, descList, headList, listPairs, listList, roleWord}
+use Rattle.model.specs.Abs.{Kind, pt, s1, s2, Role, header, hand, blank, desc, root, lst, tab, Hop, Three, threeAt, Abs, Tabs, WF, Cells, Encodes, EncodesC, isHand, cell, descList, headList, listPairs, listList, roleWord}
+use Rattle.model.specs.Read.{putAt, put-there, entry-three, kernel-lt}
 use Rattle.model.specs.Facts.{some-inj}
 
 kn : Kind → ℕ
@@ -166,6 +167,14 @@ abbrev pub rechain : Abs → (ℕ → List Hop) → (ℕ → ℕ → Option ℕ)
 rechain A ch mp = record { role = A .role; chain = ch; maps = mp; rootp = A .rootp; lstp = A .lstp; threes = A .threes; cur = A .cur }
 
 module _ {b : ℕ} (wide : 6 ≤ b) where
+  -- a word of a table set by its place in the tables
+  pub set-cell : (N : ℕ) (fl : ℕ → Option ℕ) (f : List ℕ) (A : Abs) (wf : WF b N fl A) (m : List ℕ) (C : Cells) → EncodesC b N f m A C
+      → (k : Kind) (d v : ℕ) (t : Three) → A .role d ≡ desc → threeAt (idx b v) (A .threes d) ≡ some t → (x : ℕ)
+      → EncodesC b N f (putAt b m k d v x) A (updC C k d v x)
+  set-cell N fl f A wf m C en k d v t l e x =
+      let y = entry-three wide N fl A wf f m C en k d v t l e in
+      rw (put-there b m k d v x (y .3), y .0) (put-cell wide N f A (tab-one wide N fl A wf) m C k d v (t .page k) x (y .1) (kernel-lt wide N fl A wf (t .page k) (ap isHand (y .1))) en)
+
   -- the words outside tables show chains of kernel pages only
   module _ (N : ℕ) (fl : ℕ → Option ℕ) (f : List ℕ) (A : Abs) (wf : WF b N fl A) (ch : ℕ → List Hop) (mp : ℕ → ℕ → Option ℕ)
       (keep : (q : ℕ) → isHand (A .role q) ≡ false → ch q ≡ A .chain q) where

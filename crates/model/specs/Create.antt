@@ -11,7 +11,7 @@ use Rattle.model.specs.Base.{eqd, pick, pick-yes, pick-no, upd, upd-same
 use Rattle.model.specs.Words.{W, addr, word, put, idx, off, pageOf, accOf, pageOf-pte, pageOf-addr, putL, wipe, twelve-lt}
 use Rattle.model.specs.Abs.{Kind, pt, s1, s2, Role, hand, blank, desc, Hop, Abs, headV, headP, seek, Good, WF, Encodes, isHand, cell, seenWord, descList}
 use Rattle.model.specs.Facts.{seek-here, differ, length-parts}
-use Rattle.model.specs.Read.{tablePage, entry, entry-is, kernel-lt, cell-some, hand-view}
+use Rattle.model.specs.Read.{tablePage, entryAt, entry-is, kernel-lt, cell-some, hand-view}
 use Rattle.model.specs.Roles.{setRole, isFree, role-wf, up}
 use Rattle.model.specs.Walk.{walk, passed, parent-word}
 use Rattle.model.specs.Fill.{First, FillPre, fillA, fill-wf, FillView, is-D, is-P, is-L, is-old, view}
@@ -19,7 +19,7 @@ use Rattle.model.specs.FillWords.{fillM, fill-words}
 
 module _ {b : ℕ} (wide : 6 ≤ b) where
   unfoldable pub takeM : List ℕ → ℕ → ℕ → List ℕ
-  takeM m o v = walk wide false 9 (wipe b m (pageOf b (entry b m pt o v))) o v
+  takeM m o v = walk b false 9 (wipe b m (pageOf b (entryAt b m pt o v))) o v
 
 -- a page in o's hand at v
 pub record Held (A : Abs) (o v p : ℕ) : Type 0 where
@@ -73,9 +73,9 @@ module _ (b : ℕ) where
 module _ {b : ℕ} (wide : 6 ≤ b) where
   unfoldable pub createM : List ℕ → ℕ → ℕ → (Kind → ℕ) → ℕ → List ℕ
   createM m o v vr w =
-      let D : ℕ = pageOf b (entry b m pt o v) in
-      let P : Kind → ℕ = λ k. pageOf b (entry b m pt o (vr k)) in
-      let L : ℕ = pageOf b (entry b m pt o w) in
+      let D : ℕ = pageOf b (entryAt b m pt o v) in
+      let P : Kind → ℕ = λ k. pageOf b (entryAt b m pt o (vr k)) in
+      let L : ℕ = pageOf b (entryAt b m pt o w) in
       let m5 : List ℕ = takeM wide (takeM wide (takeM wide (takeM wide (takeM wide m o v) o (vr pt)) o (vr s1)) o (vr s2)) o w in
       let m6 : List ℕ = putL b (putL b m5 D 0 (addr b v ∷ addr b D ∷ addr b (vr pt) ∷ addr b (P pt) ∷ addr b (vr s1) ∷ addr b (P s1) ∷ addr b (vr s2) ∷ addr b (P s2) ∷ addr b w ∷ addr b L ∷ 0 ∷ addr b o ∷ [])) L 0 (1 ∷ []) in
       put b m6 (tablePage b m6 s1 o v) (off b v) 1
@@ -83,8 +83,8 @@ module _ {b : ℕ} (wide : 6 ≤ b) where
 module _ (b : ℕ) where
   pub record HandW (m : List ℕ) (o v : ℕ) : Type 0 where
     pub fits : idx b v < W b
-    pub acc : accOf (entry b m pt o v) ≡ 1
-    pub unlent : entry b m s1 o v ≡ 0
+    pub acc : accOf (entryAt b m pt o v) ≡ 1
+    pub unlent : entryAt b m s1 o v ≡ 0
 
   pub record CreateChecks (m : List ℕ) (o v : ℕ) (vr : Kind → ℕ) (w : ℕ) : Type 0 where
     pub v-hand : HandW m o v
@@ -254,7 +254,7 @@ module _ {b : ℕ} (wide : 6 ≤ b) where
         P-one = P-one;
       }
 
-      page-is : (x p : ℕ) → HandW b m o x → Held A o x p → pageOf b (entry b m pt o x) ≡ p
+      page-is : (x p : ℕ) → HandW b m o x → Held A o x p → pageOf b (entryAt b m pt o x) ≡ p
       page-is x p k h = ap (pageOf b) (entry-is wide N fl A wf f m en pt o x lo (k .fits)) ∙ held-page wide N fl f A wf o x p h
 
       head-v : (x p : ℕ) → Held A o x p → headV (A .chain p) ≡ x

@@ -11,7 +11,7 @@ use Rattle.model.specs.Base.{eqd, pick, pick-yes, pick-no, upd, upd-same
 use Rattle.model.specs.Words.{W, addr, word, idx, pageOf, pageOf-addr, pte-nz, twelve-lt, words, idx-below, below-idx, sixty-one}
 use Rattle.model.specs.Abs.{Kind, pt, s1, s2, Role, header, hand, blank, desc, root, lst, tab, Hop, Three, Abs, headV, Seen, seek, threeAt, Good, Owner, Tabs, WF, Encodes, isHand, seenWord, cell, roleWord, descList, listList, listPairs}
 use Rattle.model.specs.Facts.{seek-here, seek-on, seek-nil, none-some, some-inj}
-use Rattle.model.specs.Read.{entry, entry-is, cell-none, cell-some, kernel-lt, three-is}
+use Rattle.model.specs.Read.{entryAt, entry-is, cell-none, cell-some, kernel-lt, three-is}
 use Rattle.model.specs.Delete.{after, after-parts, after-here, after-on, after-nil, cut, cut-none, cut-some, Fate, fate, through, owned, stays, delA, DelPre, Stays, no-self}
 use Rattle.model.specs.DelWords.{Back, back, Places, done, next, none-yet, releasesM, del-words}
 
@@ -19,7 +19,7 @@ module _ (b : ℕ) where
   -- the virtual pages lent to D, in D's parent
   unfoldable pub lentPlaces : List ℕ → ℕ → ℕ → List ℕ
   lentPlaces m D zero = []
-  lentPlaces m D (suc v) = pick (eqd (entry b m pt D v) 0) (lentPlaces m D v) (pageOf b (entry b m s2 D v) ∷ lentPlaces m D v)
+  lentPlaces m D (suc v) = pick (eqd (entryAt b m pt D v) 0) (lentPlaces m D v) (pageOf b (entryAt b m s2 D v) ∷ lentPlaces m D v)
 
   -- words j, j + 2, .. of page p, n of them
   unfoldable pub every2 : List ℕ → ℕ → ℕ → ℕ → List ℕ
@@ -82,10 +82,10 @@ module _ {b : ℕ} (wide : 6 ≤ b) where
 
     listed-places : (us ps : List ℕ) (S : ℕ → Bool) → Listed us ps → Places wide N fl f A wf o D pre us S (marks ps S)
     unfolding marks
-    listed-places us ps S nil = done wide
+    listed-places us ps S nil = done
     listed-places us ps S (cons {p = p} {us = vs} {ps = qs} n e l) =
         let x : Back wide N fl f A wf o D pre p = back wide N fl f A wf o D pre p n in
-        next wide p x (e ∙ ap headV (x .is)) (listed-places vs qs (upd S p true) l)
+        next p x (e ∙ ap headV (x .is)) (listed-places vs qs (upd S p true) l)
 
     -- pages mapped in D go
     seek-up : (β : Option ℕ) (hs : List Hop) (s : Seen) → seek β D hs ≡ some s → (t : List Hop) × (after D hs ≡ some t) × (s .up ≡ headV t)
@@ -98,8 +98,8 @@ module _ {b : ℕ} (wide : 6 ≤ b) where
 
     pub record Lent (v p : ℕ) : Type 0 where
       pub gone : ¬ (Stays A D p)
-      pub here : entry b m pt D v ≢ 0
-      pub place : pageOf b (entry b m s2 D v) ≡ At p
+      pub here : entryAt b m pt D v ≢ 0
+      pub place : pageOf b (entryAt b m s2 D v) ≡ At p
 
     lent : (v p : ℕ) → idx b v < W b → A .maps D v ≡ some p → Lent v p
     unfolding seenWord
@@ -135,13 +135,13 @@ module _ {b : ℕ} (wide : 6 ≤ b) where
         β : idx b v < W b
         β = idx-below wide v l
 
-        go : (x : Option ℕ) → A .maps D v ≡ x → Listed (lentPlaces b m D v) (lentPages v) → Listed (pick (eqd (entry b m pt D v) 0) (lentPlaces b m D v) (pageOf b (entry b m s2 D v) ∷ lentPlaces b m D v)) (consO (A .maps D v) (lentPages v))
+        go : (x : Option ℕ) → A .maps D v ≡ x → Listed (lentPlaces b m D v) (lentPages v) → Listed (pick (eqd (entryAt b m pt D v) 0) (lentPlaces b m D v) (pageOf b (entryAt b m s2 D v) ∷ lentPlaces b m D v)) (consO (A .maps D v) (lentPages v))
         go none e r =
-            let z : entry b m pt D v ≡ 0 = entry-is wide N fl A wf f m en pt D v (pre .child) β ∙ cell-none wide A pt D v e in
-            rw (pick-yes (eqd (entry b m pt D v) 0) (lentPlaces b m D v) (pageOf b (entry b m s2 D v) ∷ lentPlaces b m D v) z, e) r
+            let z : entryAt b m pt D v ≡ 0 = entry-is wide N fl A wf f m en pt D v (pre .child) β ∙ cell-none wide A pt D v e in
+            rw (pick-yes (eqd (entryAt b m pt D v) 0) (lentPlaces b m D v) (pageOf b (entryAt b m s2 D v) ∷ lentPlaces b m D v) z, e) r
         go (some p) e r =
             let x : Lent v p = lent v p β e in
-            rw (pick-no (eqd (entry b m pt D v) 0) (lentPlaces b m D v) (pageOf b (entry b m s2 D v) ∷ lentPlaces b m D v) (x .here), e) (cons (x .gone) (x .place) r)
+            rw (pick-no (eqd (entryAt b m pt D v) 0) (lentPlaces b m D v) (pageOf b (entryAt b m s2 D v) ∷ lentPlaces b m D v) (x .here), e) (cons (x .gone) (x .place) r)
 
     lent-in : (n v p : ℕ) → v < n → A .maps D v ≡ some p → In p (lentPages n)
     unfolding lentPages consO

@@ -11,7 +11,7 @@ use Rattle.model.specs.Base.{eqd, pick, pick-yes, pick-no, upd, upd-same
 use Rattle.model.specs.Words.{W, addr, word, put, join, idx, off, pte, bit, pageOf, accOf, pageOf-pte, accOf-pte, wipe, wipe-sized, wipe-other}
 use Rattle.model.specs.Abs.{Kind, pt, s1, s2, Role, header, hand, blank, desc, root, lst, tab, Hop, Three, Abs, parts, headV, Seen, seek, threeAt, GoodHop, Good, Owner, Tabs, WF, Cells, Encodes, EncodesC, isHand, ownWord, lentWord, seenWord, cell, roleWord, descList, headList, listList, listPairs}
 use Rattle.model.specs.Facts.{nil-cons, seek-here, seek-on, seek-nil, none-some, some-inj, not-hand, below-is, Like, like, in-range, Top, top as top-hop, is-hand}
-use Rattle.model.specs.Read.{tablePage, entry, entry-three, kernel-lt, cell-none, cell-some}
+use Rattle.model.specs.Read.{tablePage, entryAt, entry-three, kernel-lt, cell-none, cell-some}
 use Rattle.model.specs.Cells.{updC, updC-same, updC-other, put-cell, tab-one, TabView, tab-view, table, no-table, roleWord-else}
 use Rattle.model.specs.Walk.{walk, walked, flag, flag-kind, flag-none, flag-hit, Fits, fits, hop-depth}
 use Rattle.model.specs.Delete.{after, after-here, after-on, after-nil, cut, cut-none, cut-some, Fate, fate, through, owned, stays, delA, DelPre, Stays, used, gone, kept, with-owner, owner-with, seek-after, after-good, after-clear, maps-used, maps-stays, o-stays, D-parts, del-wf}
@@ -21,7 +21,7 @@ module _ {b : ℕ} (wide : 6 ≤ b) where
   unfoldable pub releaseM : ℕ → List ℕ → ℕ → List ℕ
   releaseM o m u =
       let m1 : List ℕ = put b m (tablePage b m s1 o u) (off b u) 0 in
-      pick (eqd (accOf (entry b m pt o u)) 1) m1 (walk wide true 9 (wipe b m1 (pageOf b (entry b m pt o u))) o u)
+      pick (eqd (accOf (entryAt b m pt o u)) 1) m1 (walk b true 9 (wipe b m1 (pageOf b (entryAt b m pt o u))) o u)
 
   unfoldable pub releasesM : ℕ → List ℕ → List ℕ → List ℕ
   releasesM o m [] = m
@@ -411,11 +411,11 @@ module _ {b : ℕ} (wide : 6 ≤ b) where
           let t : Twice o u p = twice o u p so at-A (x .not-kept) in
           ap (λ (z : Seen). z .rt) (some-inj (sym w ∙ t .was)) ∙ sym (t .rt) ∙ ap (λ (z : Seen). z .rt) (some-inj (sym (t .now) ∙ sees-now))
 
-      open-or : (m : List ℕ) → EncodesC b N f m B (mix S) → OpenOr (entry b m pt o u)
+      open-or : (m : List ℕ) → EncodesC b N f m B (mix S) → OpenOr (entryAt b m pt o u)
       unfolding choose seenWord
       open-or m en = go (S p) refl (isHand (A .role p)) refl
         where
-          e0 : entry b m pt o u ≡ choose (S p) (cell b B pt o u) (cell b A pt o u)
+          e0 : entryAt b m pt o u ≡ choose (S p) (cell b B pt o u) (cell b A pt o u)
           e0 = entry-three wide N fl B wB f m (mix S) en pt o u (place .0) o-live (place .1) .2 ∙ mix-some S pt o u p at-A
 
           w : (s : Seen) × (seek none o (A .chain p) ≡ some s) × (s .vp ≡ u)
@@ -424,7 +424,7 @@ module _ {b : ℕ} (wide : 6 ≤ b) where
           old : cell b A pt o u ≡ pte b p (isHand (A .role p)) (x .hop .rt)
           old = cell-some wide A pt o u p (w .0) at-A (w .1) ∙ ap (pte b p (isHand (A .role p))) (rt-was (w .0) (w .1))
 
-          go : (β : Bool) → S p ≡ β → (c : Bool) → isHand (A .role p) ≡ c → OpenOr (entry b m pt o u)
+          go : (β : Bool) → S p ≡ β → (c : Bool) → isHand (A .role p) ≡ c → OpenOr (entryAt b m pt o u)
           go true e c h = inl (e0 ∙ ap (λ (z : Bool). choose z (cell b B pt o u) (cell b A pt o u)) e ∙ cell-pt-B o u _ at-B sees-now, λ z. bool-absurd (sym e ∙ z))
           go false e true h = inl (e0 ∙ ap (λ (z : Bool). choose z (cell b B pt o u) (cell b A pt o u)) e ∙ old ∙ ap (λ (z : Bool). pte b p z (x .hop .rt)) h, λ z. is-hand (A .role p) h)
           go false e false h = inr (e0 ∙ ap (λ (z : Bool). choose z (cell b B pt o u) (cell b A pt o u)) e ∙ old ∙ ap (λ (z : Bool). pte b p z (x .hop .rt)) h, e, h)
@@ -451,18 +451,18 @@ module _ {b : ℕ} (wide : 6 ≤ b) where
           m1 : List ℕ
           m1 = put b m (tablePage b m s1 o u) (off b u) 0
 
-          go : OpenOr (entry b m pt o u)
-              → EncodesC b N f (pick (eqd (accOf (entry b m pt o u)) 1) m1 (walk wide true 9 (wipe b m1 (pageOf b (entry b m pt o u))) o u)) B (mix S′)
+          go : OpenOr (entryAt b m pt o u)
+              → EncodesC b N f (pick (eqd (accOf (entryAt b m pt o u)) 1) m1 (walk b true 9 (wipe b m1 (pageOf b (entryAt b m pt o u))) o u)) B (mix S′)
           go (inl y) =
-              subst (λ (z : List ℕ). EncodesC b N f z B (mix S′)) (sym (pick-yes (eqd (accOf (entry b m pt o u)) 1) m1 _ (ap accOf (y .0) ∙ accOf-pte wide p true (x .hop .rt) small)))
+              subst (λ (z : List ℕ). EncodesC b N f z B (mix S′)) (sym (pick-yes (eqd (accOf (entryAt b m pt o u)) 1) m1 _ (ap accOf (y .0) ∙ accOf-pte wide p true (x .hop .rt) small)))
               (ext-live wide N fl f m1 B wB C1 (mix S′) (open-cells (y .1)) e1)
           go (inr y) =
-              let pp : pageOf b (entry b m pt o u) ≡ p = ap (pageOf b) (y .0) ∙ pageOf-pte wide p false (x .hop .rt) small in
-              let na : accOf (entry b m pt o u) ≢ 1 = λ z. omega (arith, z, ap accOf (y .0) ∙ accOf-pte wide p false (x .hop .rt) small) in
+              let pp : pageOf b (entryAt b m pt o u) ≡ p = ap (pageOf b) (y .0) ∙ pageOf-pte wide p false (x .hop .rt) small in
+              let na : accOf (entryAt b m pt o u) ≢ 1 = λ z. omega (arith, z, ap accOf (y .0) ∙ accOf-pte wide p false (x .hop .rt) small) in
               let l : length (B .chain (x .hop .part)) ≡ length (x .rest) = hop-depth wide B p (x .hop) (x .rest) (g .0) in
-              let w : EncodesC b N f (walk wide true 9 (wipe b m1 p) (x .hop .part) u) B (flag b true p (x .hop ∷ x .rest) C1) = walked wide N fl f B wB p false true 9 (x .hop) (x .rest) (wipe b m1 p) C1 (omega (arith, wB .depth (x .hop .part) (g .0 .live))) g (shut-fits (y .1) (y .2)) (wipe-hand wide N f m1 B C1 p role-now e1) in
-              let w′ : EncodesC b N f (walk wide true 9 (wipe b m1 (pageOf b (entry b m pt o u))) o u) B (mix S′) = subst₂ (λ (a β : ℕ). EncodesC b N f (walk wide true 9 (wipe b m1 a) β u) B (mix S′)) (sym pp) (x .part) (ext-live wide N fl f _ B wB _ (mix S′) shut-cells w) in
-              subst (λ (z : List ℕ). EncodesC b N f z B (mix S′)) (sym (pick-no (eqd (accOf (entry b m pt o u)) 1) m1 _ na)) w′
+              let w : EncodesC b N f (walk b true 9 (wipe b m1 p) (x .hop .part) u) B (flag b true p (x .hop ∷ x .rest) C1) = walked wide N fl f B wB p false true 9 (x .hop) (x .rest) (wipe b m1 p) C1 (omega (arith, wB .depth (x .hop .part) (g .0 .live))) g (shut-fits (y .1) (y .2)) (wipe-hand wide N f m1 B C1 p role-now e1) in
+              let w′ : EncodesC b N f (walk b true 9 (wipe b m1 (pageOf b (entryAt b m pt o u))) o u) B (mix S′) = subst₂ (λ (a β : ℕ). EncodesC b N f (walk b true 9 (wipe b m1 a) β u) B (mix S′)) (sym pp) (x .part) (ext-live wide N fl f _ B wB _ (mix S′) shut-cells w) in
+              subst (λ (z : List ℕ). EncodesC b N f z B (mix S′)) (sym (pick-no (eqd (accOf (entryAt b m pt o u)) 1) m1 _ na)) w′
 
     -- all of them, one after the other
     abbrev pub none-yet : ℕ → Bool

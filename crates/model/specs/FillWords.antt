@@ -91,14 +91,14 @@ module _ {b : ℕ} (wide : 6 ≤ b) where
 
         go : (q j : ℕ) → q < N → j < W b → isHand (B .role q) ≡ false → FillView A D P L q (B .role q) → word b m2 q j ≡ roleWord b f B C (B .role q) q j
         go q j l β h (is-D x y) =
-            let w : word b m2 D j ≡ getD (descList b B D) j 0 = on-L D j β (λ e. pre .L-D (sym e)) ∙ putL-same wide N m D (descList b B D) j (en .sized) (lt D (pre .D-blank)) (omega (arith, small, twelve)) β ∙ ap (getD (descList b B D) j) (blank-word m C en D j (pre .D-blank) β) in
+            let w : word b m2 D j ≡ getD (descList b B D) j 0 = on-L D j β (λ e. pre .L-D (sym e)) ∙ putL-same wide N m D (descList b B D) j (en .sized) (lt D (pre .D-blank)) β ∙ ap (getD (descList b B D) j) (blank-word m C en D j (pre .D-blank) β) in
             rw (y, x) w
         go q j l β h (is-P k x y) =
             let w : word b m2 (P k) j ≡ 0 = on-L (P k) j β (pre .P-L k) ∙ on-D (P k) j β (pre .P-D k) ∙ blank-word m C en (P k) j (pre .P-blank k) β in
             rw y ((rw x w) ∙ sym (new-root C k q j))
         go q j l β h (is-L x y) =
             let u : word b m1 L j ≡ 0 = on-D L j β (pre .L-D) ∙ blank-word m C en L j (pre .L-blank) β in
-            let w : word b m2 L j ≡ getD (1 ∷ []) j 0 = putL-same wide N m1 L (1 ∷ []) j (putL-sized wide N m D 0 (descList b B D) (en .sized)) (lt L (pre .L-blank)) (omega (arith, small)) β ∙ ap (getD (1 ∷ []) j) u in
+            let w : word b m2 L j ≡ getD (1 ∷ []) j 0 = putL-same wide N m1 L (1 ∷ []) j (putL-sized wide N m D 0 (descList b B D) (en .sized)) (lt L (pre .L-blank)) β ∙ ap (getD (1 ∷ []) j) u in
             rw y ((rw x w) ∙ sym (new-lst C q j))
         go q j l β h (is-old n n′ n″ y) =
             on-L q j β n′ ∙ on-D q j β n ∙ en .says q j l β (ap isHand (sym y) ∙ h) ∙ old-word C q j (A .role q) refl n ∙ ap (λ (r : Role). roleWord b f B C r q j) (sym y)

@@ -11,7 +11,7 @@ use Rattle.model.specs.Base.{eqd}
 use Rattle.model.specs.Words.{W, addr, word, put, idx, put-sized, word-put-same, word-put-other, pageOf, accOf, pageOf-addr, accOf-pte, bit, twelve-lt}
 use Rattle.model.specs.Abs.{Kind, pt, s1, s2, Role, header, hand, blank, desc, root, lst, tab, Abs, Seen, seek, WF, Cells, Encodes, isHand, cell, pageWord, seenWord, lentWord, roleWord, headList, descList, tag}
 use Rattle.model.specs.Facts.{differ, not-hand, is-hand, good-map}
-use Rattle.model.specs.Read.{entry, entry-is, kernel-lt, child-view}
+use Rattle.model.specs.Read.{entryAt, entry-is, kernel-lt, child-view}
 use Rattle.model.specs.Add.{addA}
 use Rattle.model.specs.AddWords.{addM, AddChecks, add-words}
 use Rattle.model.specs.Remove.{remA, remM, RemChecks, rem-words}
@@ -79,18 +79,18 @@ module _ {b : ℕ} (wide : 6 ≤ b) where
         let x = create-words wide N fl f m A (i .wf) (i .words) (curM b m) live v vr w ck in
         record { state = _; wf = x .0; full = no-blank-left wide N fl f m A (i .wf) (i .words) (curM b m) live v vr w ck (i .full); words = x .1 }
 
-    del-pre : (v : ℕ) → idx b v < W b → entry b m s1 (curM b m) v ≡ 1 → DelPre A (curM b m) (pageOf b (entry b m pt (curM b m) v))
+    del-pre : (v : ℕ) → idx b v < W b → entryAt b m s1 (curM b m) v ≡ 1 → DelPre A (curM b m) (pageOf b (entryAt b m pt (curM b m) v))
     del-pre v β e =
         let x = child-view wide N fl A (i .wf) (curM b m) v (sym (entry-is wide N fl A (i .wf) f m (i .words) s1 (curM b m) v live β) ∙ e) in
-        let y : x .0 ≡ pageOf b (entry b m pt (curM b m) v) = sym (ap (pageOf b) (entry-is wide N fl A (i .wf) f m (i .words) pt (curM b m) v live β) ∙ x .2 .page) in
+        let y : x .0 ≡ pageOf b (entryAt b m pt (curM b m) v) = sym (ap (pageOf b) (entry-is wide N fl A (i .wf) f m (i .words) pt (curM b m) v live β) ∙ x .2 .page) in
         subst (DelPre A (curM b m)) y (record { child = x .1; hop = x .2 .hop; rest = x .2 .rest; is = x .2 .is; mine = x .2 .part; live = live; caller = sym cur-is })
 
     -- the places are those that the words of the child list
-    pub inv-delete : (v : ℕ) (β : idx b v < W b) (e : entry b m s1 (curM b m) v ≡ 1)
-        → Inv b N fl f (releasesM wide (curM b m) m (placesM b m (pageOf b (entry b m pt (curM b m) v))))
+    pub inv-delete : (v : ℕ) (β : idx b v < W b) (e : entryAt b m s1 (curM b m) v ≡ 1)
+        → Inv b N fl f (releasesM wide (curM b m) m (placesM b m (pageOf b (entryAt b m pt (curM b m) v))))
     unfolding delRole fateRole
     inv-delete v β e =
-        let D = pageOf b (entry b m pt (curM b m) v) in
+        let D = pageOf b (entryAt b m pt (curM b m) v) in
         record { state = delA A D; wf = del-wf wide N fl A (i .wf) (curM b m) D (del-pre v β e); full = no-blank D; words = deleted wide N fl f m A (i .wf) (i .words) (curM b m) D (del-pre v β e) }
       where
         no-blank : (D p : ℕ) → delRole A D p ≢ blank
@@ -108,12 +108,12 @@ module _ {b : ℕ} (wide : 6 ≤ b) where
       says = λ q k l c n. word-put-other wide m p j x q k β c (λ y. not-hand e (rw (y .0) at n)) ∙ i .words .says q k l c n;
     }
 
-    pub inv-store : (v j x : ℕ) → idx b v < W b → j < W b → entry b m pt (curM b m) v ≢ 0 → accOf (entry b m pt (curM b m) v) ≡ 1 → Inv b N fl f (put b m (pageOf b (entry b m pt (curM b m) v)) j x)
+    pub inv-store : (v j x : ℕ) → idx b v < W b → j < W b → entryAt b m pt (curM b m) v ≢ 0 → accOf (entryAt b m pt (curM b m) v) ≡ 1 → Inv b N fl f (put b m (pageOf b (entryAt b m pt (curM b m) v)) j x)
     inv-store v j x β c n a =
         let s : Sees wide N fl f m A (i .wf) (i .words) (curM b m) v = sees wide N fl f m A (i .wf) (i .words) (curM b m) v live β n in
         let h : bit (isHand (A .role (s .x .page))) ≡ 1 = sym (accOf-pte wide (s .x .page) (isHand (A .role (s .x .page))) (s .x .sees .rt) (s .small)) ∙ sym (ap accOf (s .word)) ∙ a in
-        let r : A .role (pageOf b (entry b m pt (curM b m) v)) ≡ hand = ap (A .role) (s .page) ∙ is-hand (A .role (s .x .page)) (bit-true (isHand (A .role (s .x .page))) h) in
-        record { state = A; wf = i .wf; full = i .full; words = free-put (pageOf b (entry b m pt (curM b m) v)) j x c r }
+        let r : A .role (pageOf b (entryAt b m pt (curM b m) v)) ≡ hand = ap (A .role) (s .page) ∙ is-hand (A .role (s .x .page)) (bit-true (isHand (A .role (s .x .page))) h) in
+        record { state = A; wf = i .wf; full = i .full; words = free-put (pageOf b (entryAt b m pt (curM b m) v)) j x c r }
 
     four-is : (d : ℕ) → getD (headList b f (record { role = A .role; chain = A .chain; maps = A .maps; rootp = A .rootp; lstp = A .lstp; threes = A .threes; cur = d })) 4 0 ≡ addr b d
     unfolding headList
@@ -216,9 +216,9 @@ module _ {b : ℕ} (wide : 6 ≤ b) where
     create : (v : ℕ) (vr : Kind → ℕ) (w : ℕ) → CreateChecks b m (curM b m) v vr w → Step m (createM wide m (curM b m) v vr w)
     add : (v c t r : ℕ) → AddChecks b m (curM b m) v c t r → Step m (addM b m (curM b m) v c t r)
     remove : (c t : ℕ) → RemChecks b m (curM b m) c t → Step m (remM b m (curM b m) c t)
-    delete : (v : ℕ) → idx b v < W b → entry b m s1 (curM b m) v ≡ 1 → Step m (releasesM wide (curM b m) m (placesM b m (pageOf b (entry b m pt (curM b m) v))))
-    enter : (v : ℕ) → idx b v < W b → entry b m s1 (curM b m) v ≡ 1 → Step m (put b m 0 4 (addr b (pageOf b (entry b m pt (curM b m) v))))
-    store : (v j x : ℕ) → idx b v < W b → j < W b → entry b m pt (curM b m) v ≢ 0 → accOf (entry b m pt (curM b m) v) ≡ 1 → Step m (put b m (pageOf b (entry b m pt (curM b m) v)) j x)
+    delete : (v : ℕ) → idx b v < W b → entryAt b m s1 (curM b m) v ≡ 1 → Step m (releasesM wide (curM b m) m (placesM b m (pageOf b (entryAt b m pt (curM b m) v))))
+    enter : (v : ℕ) → idx b v < W b → entryAt b m s1 (curM b m) v ≡ 1 → Step m (put b m 0 4 (addr b (pageOf b (entryAt b m pt (curM b m) v))))
+    store : (v j x : ℕ) → idx b v < W b → j < W b → entryAt b m pt (curM b m) v ≢ 0 → accOf (entryAt b m pt (curM b m) v) ≡ 1 → Step m (put b m (pageOf b (entryAt b m pt (curM b m) v)) j x)
 
   pub data Run (m : List ℕ) : List ℕ → Type 0 where
     stop : Run m m
@@ -229,7 +229,7 @@ module _ {b : ℕ} (wide : 6 ≤ b) where
   step-keeps N fl f m m′ i (add v c t r ck) = inv-add N fl f m i v c t r ck
   step-keeps N fl f m m′ i (remove c t ck) = inv-remove N fl f m i c t ck
   step-keeps N fl f m m′ i (delete v β e) = inv-delete N fl f m i v β e
-  step-keeps N fl f m m′ i (enter v β e) = inv-move N fl f m i (pageOf b (entry b m pt (curM b m) v)) (child-is wide N fl f m (i .state) (i .wf) (i .words) (curM b m) v (live N fl f m i) β e .0)
+  step-keeps N fl f m m′ i (enter v β e) = inv-move N fl f m i (pageOf b (entryAt b m pt (curM b m) v)) (child-is wide N fl f m (i .state) (i .wf) (i .words) (curM b m) v (live N fl f m i) β e .0)
   step-keeps N fl f m m′ i (store v j x β c n a) = inv-store N fl f m i v j x β c n a
 
   pub run-keeps : (N : ℕ) (fl : ℕ → Option ℕ) (f m m′ : List ℕ) → Inv b N fl f m → Run m m′ → Inv b N fl f m′
@@ -238,7 +238,7 @@ module _ {b : ℕ} (wide : 6 ≤ b) where
 
   -- after any run: siblings share no page
   pub run-siblings : (N : ℕ) (fl : ℕ → Option ℕ) (f m₀ m : List ℕ) → Inv b N fl f m₀ → Run m₀ m → (d c c′ v v′ : ℕ) → Tree b m d → Child wide m d c → Child wide m d c′ → idx b v < W b → idx b v′ < W b
-      → entry b m pt c v ≢ 0 → entry b m pt c′ v′ ≢ 0 → pageOf b (entry b m pt c v) ≡ pageOf b (entry b m pt c′ v′) → c ≡ c′
+      → entryAt b m pt c v ≢ 0 → entryAt b m pt c′ v′ ≢ 0 → pageOf b (entryAt b m pt c v) ≡ pageOf b (entryAt b m pt c′ v′) → c ≡ c′
   run-siblings N fl f m₀ m i r =
       let k : Inv b N fl f m = run-keeps N fl f m₀ m i r in
       siblings wide N fl f m (k .state) (k .wf) (k .words)

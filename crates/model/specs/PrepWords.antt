@@ -155,19 +155,19 @@ module _ {b : ℕ} (wide : 6 ≤ b) where
 
     on-list : (m : List ℕ) (j : ℕ) → Sized b N m → j < W b → word b m L j ≡ getD ((1 + 6 * n) ∷ xs) j 0 → word b (prepM m) L j ≡ getD ((1 + 6 * (1 + n)) ∷ (xs ++ six b (A .chain) P)) j 0
     unfolding prepM
-    on-list m zero s β e = putL-before wide (m4 m) L (1 + 6 * n) (six b (A .chain) P) 0 room (omega arith) β ∙ word-put-same wide N (m3 m) L 0 _ (m3-sized m s) (lt L (lst c) L-role refl) zero-lt
+    on-list m zero s β e = putL-before wide (m4 m) L (1 + 6 * n) (six b (A .chain) P) 0 (omega arith) ∙ word-put-same wide N (m3 m) L 0 _ (m3-sized m s) (lt L (lst c) L-role refl) zero-lt
     on-list m (suc j) s β e = go (decLt j (6 * n))
       where
         old : word b (m4 m) L (suc j) ≡ getD xs j 0
         old = word-put-other wide (m3 m) L 0 _ L (suc j) zero-lt β (λ y. omega (arith, y .1)) ∙ m3-off m L (suc j) β (λ k y. L-R k (y .0)) ∙ e
 
         go : Dec (j < 6 * n) → word b (prepM m) L (suc j) ≡ getD (xs ++ six b (A .chain) P) j 0
-        go (yes l) = putL-before wide (m4 m) L (1 + 6 * n) (six b (A .chain) P) (suc j) room (omega arith) β ∙ old ∙ sym (List·getD-append xs (six b (A .chain) P) 0 j (omega (arith, pairs-length wide (A .chain) (A .threes c))))
+        go (yes l) = putL-before wide (m4 m) L (1 + 6 * n) (six b (A .chain) P) (suc j) (omega arith) ∙ old ∙ sym (List·getD-append xs (six b (A .chain) P) 0 j (omega (arith, pairs-length wide (A .chain) (A .threes c))))
         go (no l) =
             let h : length xs + (j - 6 * n) ≡ j = omega (arith, pairs-length wide (A .chain) (A .threes c)) in
             let z : getD xs j 0 ≡ 0 = List·getD-eq-default xs 0 {n = j} (omega (arith, pairs-length wide (A .chain) (A .threes c))) in
             let w : getD (xs ++ six b (A .chain) P) j 0 ≡ getD (six b (A .chain) P) (j - 6 * n) 0 = subst (λ (t : ℕ). getD (xs ++ six b (A .chain) P) t 0 ≡ getD (six b (A .chain) P) (j - 6 * n) 0) h (getD-append-add xs (six b (A .chain) P) (j - 6 * n) 0) in
-            putL-at wide N (m4 m) L (1 + 6 * n) (six b (A .chain) P) (j - 6 * n) (suc j) (put-sized wide N (m3 m) L 0 _ (m3-sized m s)) (lt L (lst c) L-role refl) room (omega arith) β
+            putL-at wide N (m4 m) L (1 + 6 * n) (six b (A .chain) P) (j - 6 * n) (suc j) (put-sized wide N (m3 m) L 0 _ (m3-sized m s)) (lt L (lst c) L-role refl) (omega arith) β
             ∙ ap (getD (six b (A .chain) P) (j - 6 * n)) (old ∙ z) ∙ sym w
 
     threes-other : (d : ℕ) → d ≢ c → B .threes d ≡ A .threes d

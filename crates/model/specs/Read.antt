@@ -7,8 +7,10 @@ use mathlib.Core.List.{List, [], _∷_}
 use Prim.Native.Nat.{ℕ, _≤_, _<_}
 use native.Mathlib.Omega.{arith}
 use native.Mathlib.Decide.{decLt}
+use Rattle.memory.specs.Partition
+use Rattle.memory.proofs.Tables.{tableWord-absent, tableWord-present, putTableWord-present}
 use Rattle.model.specs.Base.{eqd, pick, pick-yes, pick-no}
-use Rattle.model.specs.Words.{W, addr, word, idx, off, pte, bit, pageOf, accOf, rightsOf, pageOf-addr, pageOf-link, pageOf-zero, pageOf-pte, accOf-pte, rightsOf-pte, addr-nz, addr-not-one, accOf-zero, off-lt, join-cut, twelve-lt}
+use Rattle.model.specs.Words.{W, addr, word, put, idx, off, pte, link, link-nz, bit, pageOf, accOf, rightsOf, pageOf-addr, pageOf-link, pageOf-zero, pageOf-pte, accOf-pte, rightsOf-pte, addr-nz, addr-not-one, accOf-zero, off-lt, join-cut, twelve-lt}
 use Rattle.model.specs.Abs.{Kind, pt, s1, s2, Role, header, hand, blank, desc, root, lst, tab, Hop, Three, Abs, parts, headV, Seen, seek, threeAt, Good, Tabs, WF, Cells, Encodes, EncodesC, isHand, ownWord, lentWord, seenWord, pageWord, cell, linkWord, descList, roleWord}
 use Rattle.model.specs.Facts.{none-some, some-inj, Hit, hit, nil-cons, Top, top, not-hand, is-hand, below-is}
 
@@ -20,15 +22,47 @@ slot s2 = 7
 
 module _ (b : ℕ) where
   unfoldable pub rootPage : List ℕ → Kind → ℕ → ℕ
-  rootPage m k d = pageOf b (word b m d (slot k))
+  rootPage m pt d = Partition.directory b m d
+  rootPage m s1 d = Partition.shadow1 b m d
+  rootPage m s2 d = Partition.shadow2 b m d
 
-  -- 0 if there is no table (page 0 is none)
+  -- the root's word for virtual page v: 0, or a link to the table
+  unfoldable pub tableAt : List ℕ → Kind → ℕ → ℕ → ℕ
+  tableAt m k d v = Partition.tableAt b m (rootPage m k d) v
+
   unfoldable pub tablePage : List ℕ → Kind → ℕ → ℕ → ℕ
-  tablePage m k d v = pageOf b (word b m (rootPage m k d) (idx b v))
+  tablePage m k d v = pageOf b (tableAt m k d v)
 
-  -- a word in an absent table counts as 0
-  unfoldable pub entry : List ℕ → Kind → ℕ → ℕ → ℕ
-  entry m k d v = pick (eqd (tablePage m k d v) 0) 0 (word b m (tablePage m k d v) (off b v))
+  -- the table's word for virtual page v; in an absent table 0
+  unfoldable pub entryAt : List ℕ → Kind → ℕ → ℕ → ℕ
+  entryAt m k d v = Partition.tableWord b m (rootPage m k d) v
+
+  -- that word set
+  unfoldable pub putAt : List ℕ → Kind → ℕ → ℕ → ℕ → List ℕ
+  putAt m k d v x = Partition.putTableWord b m (rootPage m k d) v x
+
+module _ (b : ℕ) (m : List ℕ) (k : Kind) (d v : ℕ) where
+  pub entry-there : tableAt b m k d v ≢ 0 → entryAt b m k d v ≡ word b m (tablePage b m k d v) (off b v)
+  unfolding tableAt entryAt tablePage word off pageOf
+  entry-there n = tableWord-present b m (rootPage b m k d) v n
+
+  pub entry-absent : tableAt b m k d v ≡ 0 → entryAt b m k d v ≡ 0
+  unfolding tableAt entryAt
+  entry-absent e = tableWord-absent b m (rootPage b m k d) v e
+
+  pub put-there : (x : ℕ) → tableAt b m k d v ≢ 0 → putAt b m k d v x ≡ put b m (tablePage b m k d v) (off b v) x
+  unfolding tableAt putAt tablePage put off pageOf
+  put-there x n = putTableWord-present b m (rootPage b m k d) v x n
+
+root-slot : (b : ℕ) (m : List ℕ) (k : Kind) (d : ℕ) → rootPage b m k d ≡ pageOf b (word b m d (slot k))
+unfolding rootPage slot pageOf word
+root-slot b m pt d = refl
+root-slot b m s1 d = refl
+root-slot b m s2 d = refl
+
+table-slot : (b : ℕ) (m : List ℕ) (k : Kind) (d v : ℕ) → tableAt b m k d v ≡ word b m (rootPage b m k d) (idx b v)
+unfolding tableAt word idx
+table-slot b m k d v = refl
 
 module _ {b : ℕ} (wide : 6 ≤ b) where
   slot-lt : (k : Kind) → slot k < W b
@@ -71,9 +105,6 @@ module _ {b : ℕ} (wide : 6 ≤ b) where
           subst (λ (z : Three). ThreeIs b role d i z) f (record { at = sym y; fits = rw y (g .0 .fits); pages = λ k. rw y (g .0 .pages k) })
       go (no n) ih = ih (sym (pick-no (eqd i (x .at)) (some x) (threeAt i xs) n) ∙ e)
 
-tab-header : {P : Type 0} {k : Kind} {d i : ℕ} → tab k d i ≡ header → P
-tab-header e = let z : _≡_ {A = ℕ} 0 1 = cc in absurd (omega arith)
-
 -- one mapping of d
 pub record Maps (A : Abs) (d v : ℕ) : Type 0 where
   pub page : ℕ
@@ -99,8 +130,8 @@ module _ {b : ℕ} (wide : 6 ≤ b) where
         go (yes l) = l
         go (no l) = not-hand (wf .beyond q (omega arith) .0) h
 
-    pub mapping : (k : Kind) (d v : ℕ) → cell b A k d v ≢ 0 → Maps A d v
-    mapping k d v h = go (A .maps d v) refl
+    pub maps-at : (k : Kind) (d v : ℕ) → cell b A k d v ≢ 0 → Maps A d v
+    maps-at k d v h = go (A .maps d v) refl
       where
         go : (o : Option ℕ) → A .maps d v ≡ o → Maps A d v
         go none e = absurd (h (cell-none A k d v e))
@@ -126,41 +157,55 @@ module _ {b : ℕ} (wide : 6 ≤ b) where
 
     module _ (f m : List ℕ) (C : Cells) (en : EncodesC b N f m A C) where
       pub root-page : (k : Kind) (d : ℕ) → A .role d ≡ desc → rootPage b m k d ≡ A .rootp k d
-      unfolding rootPage
       root-page k d l =
           let h : isHand (A .role d) ≡ false = ap isHand l in
-          rw (en .says d (slot k) (kernel-lt d h) (slot-lt wide k) h, l, slot-word wide f A C k d) (pageOf-addr wide (A .rootp k d))
+          rw (root-slot b m k d, en .says d (slot k) (kernel-lt d h) (slot-lt wide k) h, l, slot-word wide f A C k d) (pageOf-addr wide (A .rootp k d))
 
-      pub table-page : (k : Kind) (d v : ℕ) → A .role d ≡ desc → idx b v < W b → tablePage b m k d v ≡ threePage k (threeAt (idx b v) (A .threes d))
-      unfolding tablePage roleWord
-      table-page k d v l β =
+      pub table-word : (k : Kind) (d v : ℕ) → A .role d ≡ desc → idx b v < W b → tableAt b m k d v ≡ linkWord b k (threeAt (idx b v) (A .threes d))
+      unfolding roleWord
+      table-word k d v l β =
           let r : A .role (A .rootp k d) ≡ root k d = wf .root-role k d l in
           let h : isHand (A .role (A .rootp k d)) ≡ false = ap isHand r in
-          rw (root-page k d l, en .says (A .rootp k d) (idx b v) (kernel-lt (A .rootp k d) h) β h, r) (pageOf-linkWord wide k (threeAt (idx b v) (A .threes d)))
+          rw (table-slot b m k d v, root-page k d l, en .says (A .rootp k d) (idx b v) (kernel-lt (A .rootp k d) h) β h, r) refl
+
+      pub table-page : (k : Kind) (d v : ℕ) → A .role d ≡ desc → idx b v < W b → tablePage b m k d v ≡ threePage k (threeAt (idx b v) (A .threes d))
+      unfolding tablePage
+      table-page k d v l β = ap (pageOf b) (table-word k d v l β) ∙ pageOf-linkWord wide k (threeAt (idx b v) (A .threes d))
 
       -- where there is a three, the word is the cell
-      pub entry-three : (k : Kind) (d v : ℕ) (t : Three) → A .role d ≡ desc → threeAt (idx b v) (A .threes d) ≡ some t → (tablePage b m k d v ≡ t .page k) × (A .role (t .page k) ≡ tab k d (idx b v)) × (entry b m k d v ≡ C k d v)
-      unfolding entry threePage roleWord
+      pub entry-three : (k : Kind) (d v : ℕ) (t : Three) → A .role d ≡ desc → threeAt (idx b v) (A .threes d) ≡ some t
+          → (tablePage b m k d v ≡ t .page k) × (A .role (t .page k) ≡ tab k d (idx b v)) × (entryAt b m k d v ≡ C k d v) × (tableAt b m k d v ≢ 0)
+      unfolding threePage linkWord roleWord
       entry-three k d v t l e =
           let x : ThreeIs b (A .role) d (idx b v) t = three-is wide (A .role) d (idx b v) (A .threes d) t (wf .tabs d l) e in
           let r : A .role (t .page k) ≡ tab k d (idx b v) = x .pages k in
           let tp : tablePage b m k d v ≡ t .page k = table-page k d v l (x .fits) ∙ ap (threePage k) e in
+          let tw : tableAt b m k d v ≡ link b (t .page k) = table-word k d v l (x .fits) ∙ ap (linkWord b k) e in
           let h : isHand (A .role (t .page k)) ≡ false = ap isHand r in
-          let nz : tablePage b m k d v ≢ 0 = λ z. tab-header (sym r ∙ (rw (sym tp ∙ z) (wf .head-role))) in (
+          let nz : tableAt b m k d v ≢ 0 = λ z. link-nz wide (t .page k) (sym tw ∙ z) in (
             tp,
             r,
-            pick-no (eqd (tablePage b m k d v) 0) 0 (word b m (tablePage b m k d v) (off b v)) nz
-                ∙ (rw (tp, en .says (t .page k) (off b v) (kernel-lt (t .page k) h) (off-lt wide v) h, r, join-cut wide v) refl),
+            entry-there b m k d v nz ∙ (rw (tp, en .says (t .page k) (off b v) (kernel-lt (t .page k) h) (off-lt wide v) h, r, join-cut wide v) refl),
+            nz,
           )
 
-      pub entry-no-three : (k : Kind) (d v : ℕ) → A .role d ≡ desc → idx b v < W b → threeAt (idx b v) (A .threes d) ≡ none → entry b m k d v ≡ 0
-      unfolding entry threePage
-      entry-no-three k d v l β e = pick-yes (eqd (tablePage b m k d v) 0) 0 _ (table-page k d v l β ∙ ap (threePage k) e)
+      pub entry-no-three : (k : Kind) (d v : ℕ) → A .role d ≡ desc → idx b v < W b → threeAt (idx b v) (A .threes d) ≡ none → entryAt b m k d v ≡ 0
+      unfolding linkWord
+      entry-no-three k d v l β e = entry-absent b m k d v (table-word k d v l β ∙ ap (linkWord b k) e)
 
-    pub entry-is : (f m : List ℕ) → Encodes b N f m A → (k : Kind) (d v : ℕ) → A .role d ≡ desc → idx b v < W b → entry b m k d v ≡ cell b A k d v
+      -- where the root has a word there is a three
+      pub three-there : (k : Kind) (d v : ℕ) → A .role d ≡ desc → idx b v < W b → tableAt b m k d v ≢ 0 → (th : Three) × (threeAt (idx b v) (A .threes d) ≡ some th)
+      unfolding linkWord
+      three-there k d v l β h = go (threeAt (idx b v) (A .threes d)) refl
+        where
+          go : (x : Option Three) → threeAt (idx b v) (A .threes d) ≡ x → (th : Three) × (threeAt (idx b v) (A .threes d) ≡ some th)
+          go none e = absurd (h (table-word k d v l β ∙ ap (linkWord b k) e))
+          go (some th) e = (th, e)
+
+    pub entry-is : (f m : List ℕ) → Encodes b N f m A → (k : Kind) (d v : ℕ) → A .role d ≡ desc → idx b v < W b → entryAt b m k d v ≡ cell b A k d v
     entry-is f m en k d v l β = go (threeAt (idx b v) (A .threes d)) refl
       where
-        go : (o : Option Three) → threeAt (idx b v) (A .threes d) ≡ o → entry b m k d v ≡ cell b A k d v
+        go : (o : Option Three) → threeAt (idx b v) (A .threes d) ≡ o → entryAt b m k d v ≡ cell b A k d v
         go none e = entry-no-three f m (cell b A) en k d v l β e ∙ sym (cell-none A k d v (unmapped d v e))
         go (some t) e = entry-three f m (cell b A) en k d v t l e .2
 
@@ -230,7 +275,7 @@ module _ {b : ℕ} (wide : 6 ≤ b) where
     pub hand-view : (d v : ℕ) → accOf (cell b A pt d v) ≡ 1 → cell b A s1 d v ≡ 0 → (p : ℕ) × (A .role p ≡ hand) × Own b A d v p
     unfolding lentWord
     hand-view d v a z =
-        let x : Maps A d v = mapping wide N fl A wf pt d v (λ e. omega (arith, accOf-zero wide, (rw e at a))) in
+        let x : Maps A d v = maps-at wide N fl A wf pt d v (λ e. omega (arith, accOf-zero wide, (rw e at a))) in
         let h : Hit b A (x .page) d (A .chain (x .page)) (x .sees) = maps-hit wide N fl A wf d v x in
         let l : x .sees .rt < 8 = rw (h .rt) (h .hop-good .small) in
         let i : bit (isHand (A .role (x .page))) ≡ 1 = sym (accOf-pte wide (x .page) _ (x .sees .rt) l) ∙ (rw (cell-pt wide A d v (x .page) (x .sees) (x .maps) (x .finds)) at a) in
@@ -246,7 +291,7 @@ module _ {b : ℕ} (wide : 6 ≤ b) where
     child-view d v z = go x (x .sees .below) refl
       where
         x : Maps A d v
-        x = mapping wide N fl A wf s1 d v (λ e. omega (arith, (rw e at z)))
+        x = maps-at wide N fl A wf s1 d v (λ e. omega (arith, (rw e at z)))
 
         go : (x : Maps A d v) (o : Option ℕ) → x .sees .below ≡ o → (p : ℕ) × (A .role p ≡ desc) × Own b A d v p
         go x none e = (x .page, own-desc (A .role (x .page)) (rw (cell-s1 wide A d v (x .page) (x .sees) (x .maps) (x .finds), e) at z), own d v x e)

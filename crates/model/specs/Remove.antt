@@ -13,7 +13,7 @@ use Rattle.model.specs.Facts.{seek-here, seek-on, none-some, some-inj, n
 use Rattle.model.specs.Cells.{updC, put-cell, tab-one, rechain, rechained, undo}
 use Rattle.model.specs.Add.{AddPre, newHop, addA}
 use Rattle.model.specs.AddWords.{add-cells}
-use Rattle.model.specs.Read.{tablePage, entry, entry-is, entry-three, cell-none, cell-some, kernel-lt, Own, hand-view, child-view}
+use Rattle.model.specs.Read.{tablePage, entryAt, entry-is, entry-three, cell-none, cell-some, kernel-lt, Own, hand-view, child-view}
 
 pub record RemPre (A : Abs) (o p c t r : ℕ) (hop : Hop) (rest : List Hop) : Type 0 where
   pub in-hand : A .role p ≡ hand
@@ -186,16 +186,16 @@ module _ (b : ℕ) where
   -- document 01's effect on the words
   unfoldable pub remM : List ℕ → ℕ → ℕ → ℕ → List ℕ
   remM m o vc t =
-      let c : ℕ = pageOf b (entry b m pt o vc) in
-      let u : ℕ = pageOf b (entry b m s2 c t) in
+      let c : ℕ = pageOf b (entryAt b m pt o vc) in
+      let u : ℕ = pageOf b (entryAt b m s2 c t) in
       put b (put b (put b m (tablePage b m pt c t) (off b t) 0) (tablePage b m s2 c t) (off b t) 0) (tablePage b m s1 o u) (off b u) 0
 
   pub record RemChecks (m : List ℕ) (o vc t : ℕ) : Type 0 where
     pub vc-fits : idx b vc < W b
     pub t-fits : idx b t < W b
-    pub child : entry b m s1 o vc ≡ 1
-    pub acc : accOf (entry b m pt (pageOf b (entry b m pt o vc)) t) ≡ 1
-    pub unlent : entry b m s1 (pageOf b (entry b m pt o vc)) t ≡ 0
+    pub child : entryAt b m s1 o vc ≡ 1
+    pub acc : accOf (entryAt b m pt (pageOf b (entryAt b m pt o vc)) t) ≡ 1
+    pub unlent : entryAt b m s1 (pageOf b (entryAt b m pt o vc)) t ≡ 0
 
 hop-path : (h : Hop) (c t : ℕ) → h .part ≡ c → h .vp ≡ t → h ≡ newHop c t (h .rt)
 hop-path h c t a β = λ i. record { part = a i; vp = β i; rt = h .rt }
@@ -209,14 +209,14 @@ module _ {b : ℕ} (wide : 6 ≤ b) where
       pub hop : Hop
       pub rest : List Hop
       pub pre : RemPre A o p c t r hop rest
-      pub c-is : pageOf b (entry b m pt o vc) ≡ c
-      pub u-is : entry b m s2 c t ≡ addr b (hop .vp)
+      pub c-is : pageOf b (entryAt b m pt o vc) ≡ c
+      pub u-is : entryAt b m s2 c t ≡ addr b (hop .vp)
 
     pub rem-view : (vc t : ℕ) → RemChecks b m o vc t → RemView vc t
     unfolding seenWord
     rem-view vc t ck = go (hv .2 .rest) refl
       where
-        rc : (k : Kind) → entry b m k o vc ≡ cell b A k o vc
+        rc : (k : Kind) → entryAt b m k o vc ≡ cell b A k o vc
         rc k = entry-is wide N fl A wf f m en k o vc lo (ck .vc-fits)
 
         cv : (c : ℕ) × (A .role c ≡ desc) × Own b A o vc c
@@ -225,10 +225,10 @@ module _ {b : ℕ} (wide : 6 ≤ b) where
         c : ℕ
         c = cv .0
 
-        c-is : pageOf b (entry b m pt o vc) ≡ c
+        c-is : pageOf b (entryAt b m pt o vc) ≡ c
         c-is = ap (pageOf b) (rc pt) ∙ cv .2 .page
 
-        rt : (k : Kind) → entry b m k c t ≡ cell b A k c t
+        rt : (k : Kind) → entryAt b m k c t ≡ cell b A k c t
         rt k = entry-is wide N fl A wf f m en k c t (cv .1) (ck .t-fits)
 
         hv : (p : ℕ) × (A .role p ≡ hand) × Own b A c t p
@@ -260,7 +260,7 @@ module _ {b : ℕ} (wide : 6 ≤ b) where
         → Encodes b N f (put b (put b (put b m (tablePage b m pt c t) (off b t) 0) (tablePage b m s2 c t) (off b t) 0) (tablePage b m s1 o (hop .vp)) (off b (hop .vp)) 0) (remA A p c t hop rest)
     rem-at p c t r hop rest pre =
         let one = tab-one wide N fl A wf in
-        let gg = g N fl A wf o p c t r hop rest pre in
+        let gg = g wide N fl A wf o p c t r hop rest pre in
         let mi : hop .part ≡ o = mine wide N fl A wf o p c t r hop rest pre in
         let th = gg .0 .three in
         let tu : (x : Three) × (threeAt (idx b (hop .vp)) (A .threes o) ≡ some x) = subst (λ (x : ℕ). (y : Three) × (threeAt (idx b (hop .vp)) (A .threes x) ≡ some y)) mi (gg .1 .0 .three) in
@@ -274,7 +274,7 @@ module _ {b : ℕ} (wide : 6 ≤ b) where
         (put-cell wide N f A one _ _ s2 c t _ _ (β .1) (lt _ _ _ _ (β .1))
         (put-cell wide N f A one _ _ pt c t _ _ (a .1) (lt _ _ _ _ (a .1)) en))))
 
-    rem-is : (vc t c u : ℕ) → pageOf b (entry b m pt o vc) ≡ c → entry b m s2 c t ≡ addr b u
+    rem-is : (vc t c u : ℕ) → pageOf b (entryAt b m pt o vc) ≡ c → entryAt b m s2 c t ≡ addr b u
         → remM b m o vc t ≡ put b (put b (put b m (tablePage b m pt c t) (off b t) 0) (tablePage b m s2 c t) (off b t) 0) (tablePage b m s1 o u) (off b u) 0
     unfolding remM
     rem-is vc t c u a β = rw (a, β, pageOf-addr wide u) refl

@@ -4,27 +4,26 @@ use mathlib.Core.Logic.{_≢_}
 use mathlib.Core.Bool.{Bool, true, false}
 use mathlib.Core.Option.{Option, none, some}
 use mathlib.Core.List.{List, [], _∷_}
-use Prim.Native.Nat.{ℕ, zero, suc, _≤_, _<_}
+use Prim.Native.Nat.{ℕ, zero, suc, _≤_, _<_, _-_}
 use native.Mathlib.Omega.{arith}
 use lib.ListN.{length}
+use Rattle.memory.specs.Geometry.{address}
+use Rattle.memory.proofs.Geometry.{page-address}
+use Rattle.rules.specs.Moves.{mark}
+use Rattle.rules.proofs.Turns.{mark-root, mark-up}
 use Rattle.model.specs.Base.{eqd, pick, pick-yes, pick-no, upd, upd-same, upd-other}
-use Rattle.model.specs.Words.{W, addr, word, put, off, pte, pageOf, pageOf-addr, setAcc, setAcc-pte, wipe, wipe-sized, wipe-other, wipe-same, twelve-lt}
+use Rattle.model.specs.Words.{bit, W, addr, word, put, off, pte, pageOf, pageOf-addr, setAcc, setAcc-pte, wipe, wipe-sized, wipe-other, wipe-same, twelve-lt}
 use Rattle.model.specs.Abs.{Kind, pt, s1, s2, Role, header, hand, blank, desc, root, lst, tab, Hop, Abs, parts, headV, headP, Seen, seek, GoodHop, Good, WF, Cells, Encodes, EncodesC, isHand, ownWord, lentWord, seenWord, cell, roleWord, descList, headList}
 use Rattle.model.specs.Facts.{in-range, nil-cons, length-parts, seek-here, seek-on, seek-nil, none-some, some-inj}
-use Rattle.model.specs.Read.{tablePage, entry, entry-three, kernel-lt, cell-none, cell-some}
-use Rattle.model.specs.Cells.{updC, updC-same, updC-other, put-cell, tab-one}
+use Rattle.model.specs.Read.{rootPage, entryAt, putAt, entry-three, kernel-lt, cell-none, cell-some}
+use Rattle.model.specs.Cells.{updC, updC-same, updC-other, set-cell}
 use Rattle.model.specs.Roles.{setRole, isFree, up, role-wf, true-false}
 
-module _ {b : ℕ} (wide : 6 ≤ b) where
-  -- on the words: at most fuel partitions, up to the one with no parent
-  unfoldable pub walk : Bool → ℕ → List ℕ → ℕ → ℕ → List ℕ
-  walk β zero m d v = m
-  walk β (suc n) m d v =
-      let m′ : List ℕ = put b m (tablePage b m pt d v) (off b v) (setAcc b β (entry b m pt d v)) in
-      let up : ℕ = pageOf b (word b m d 11) in
-      pick (eqd (up wide) 0) m′ (walk β n m′ (up wide) (pageOf b (entry b m s2 d v)))
-
 module _ (b : ℕ) where
+  -- on the words: at most n partitions, up to the one with no parent
+  unfoldable pub walk : Bool → ℕ → List ℕ → ℕ → ℕ → List ℕ
+  walk β n m d v = mark b n (bit β) m d (addr b v)
+
   -- the cells after it
   unfoldable pub flag : Bool → ℕ → List Hop → Cells → Cells
   flag β p [] C = C
@@ -34,6 +33,19 @@ module _ (b : ℕ) where
   abbrev pub Fits : Bool → Cells → ℕ → List Hop → Type 0
   Fits a C p [] = Unit {0}
   Fits a C p (h ∷ hs) = ((C pt (h .part) (h .vp) ≡ pte b p a (h .rt)) × (C s2 (h .part) (h .vp) ≡ addr b (headV hs))) × Fits a C p hs
+
+module _ (b : ℕ) (β : Bool) (n : ℕ) (m : List ℕ) (d v : ℕ) where
+  -- one turn
+  pub walk-root : pageOf b (word b m d 11) ≡ 0 → walk b β (suc n) m d v ≡ putAt b m pt d v (setAcc b β (entryAt b m pt d v))
+  unfolding walk putAt entryAt rootPage setAcc addr pageOf word
+  walk-root e = mark-root b (bit β) m d (address b v) (suc n) (omega arith) e ∙ (rw (page-address b v) refl)
+
+  pub walk-up : (u : ℕ) → pageOf b (word b m d 11) ≢ 0 → entryAt b m s2 d v ≡ addr b u
+      → walk b β (suc n) m d v ≡ walk b β n (putAt b m pt d v (setAcc b β (entryAt b m pt d v))) (pageOf b (word b m d 11)) u
+  unfolding walk putAt entryAt rootPage setAcc addr pageOf word
+  walk-up u ne e =
+      let k : suc n - 1 ≡ n = omega arith in
+      mark-up b (bit β) m d (address b v) (suc n) (omega arith) ne ∙ (rw (page-address b v, k, e) refl)
 
 headP-parts : (hs gs : List Hop) → parts hs ≡ parts gs → headP hs ≡ headP gs
 headP-parts [] [] e = refl
@@ -103,9 +115,9 @@ module _ {b : ℕ} (wide : 6 ≤ b) where
   module _ (N : ℕ) (fl : ℕ → Option ℕ) (f : List ℕ) (A : Abs) (wf : WF b N fl A) (p : ℕ) (a β : Bool) where
     -- one step: the word set, and where the walk goes on
     pub record Step (h : Hop) (hs : List Hop) (m : List ℕ) (C : Cells) : Type 0 where
-      pub after : EncodesC b N f (put b m (tablePage b m pt (h .part) (h .vp)) (off b (h .vp)) (setAcc b β (entry b m pt (h .part) (h .vp)))) A (updC C pt (h .part) (h .vp) (pte b p β (h .rt)))
+      pub after : EncodesC b N f (putAt b m pt (h .part) (h .vp) (setAcc b β (entryAt b m pt (h .part) (h .vp)))) A (updC C pt (h .part) (h .vp) (pte b p β (h .rt)))
       pub parent : pageOf b (word b m (h .part) 11) ≡ headP hs
-      pub next : pageOf b (entry b m s2 (h .part) (h .vp)) ≡ headV hs
+      pub next : entryAt b m s2 (h .part) (h .vp) ≡ addr b (headV hs)
 
     step : (h : Hop) (hs : List Hop) (m : List ℕ) (C : Cells) → Good b A p (h ∷ hs) → Fits b a C p (h ∷ hs) → EncodesC b N f m A C → Step h hs m C
     step h hs m C g t en =
@@ -116,22 +128,22 @@ module _ {b : ℕ} (wide : 6 ≤ b) where
         let nh : isHand (A .role (h .part)) ≡ false = ap isHand l in
         let w : word b m (h .part) 11 ≡ addr b (headP (A .chain (h .part))) = en .says (h .part) 11 (kernel-lt wide N fl A wf (h .part) nh) (twelve-lt wide 11 (omega arith)) nh ∙ (rw l (parent-word wide f A C (h .part))) in
         record {
-          after = rw (x .0, x .2, t .0 .0, setAcc-pte wide p a β (h .rt)) (put-cell wide N f A (tab-one wide N fl A wf) m C pt (h .part) (h .vp) (th .0 .page pt) (pte b p β (h .rt)) (x .1) (kernel-lt wide N fl A wf (th .0 .page pt) (ap isHand (x .1))) en);
+          after = rw (x .2, t .0 .0, setAcc-pte wide p a β (h .rt) (g .0 .small)) (set-cell wide N fl f A wf m C en pt (h .part) (h .vp) (th .0) l (th .1) (pte b p β (h .rt)));
           parent = ap (pageOf b) w ∙ pageOf-addr wide (headP (A .chain (h .part))) ∙ sym (headP-parts hs (A .chain (h .part)) (g .0 .above));
-          next = rw (y .2, t .0 .1) (pageOf-addr wide (headV hs));
+          next = y .2 ∙ t .0 .1;
         }
 
-    pub walked : (n : ℕ) (h : Hop) (hs : List Hop) (m : List ℕ) (C : Cells) → length hs < n → Good b A p (h ∷ hs) → Fits b a C p (h ∷ hs) → EncodesC b N f m A C → EncodesC b N f (walk wide β n m (h .part) (h .vp)) A (flag b β p (h ∷ hs) C)
-    unfolding walk flag
+    pub walked : (n : ℕ) (h : Hop) (hs : List Hop) (m : List ℕ) (C : Cells) → length hs < n → Good b A p (h ∷ hs) → Fits b a C p (h ∷ hs) → EncodesC b N f m A C → EncodesC b N f (walk b β n m (h .part) (h .vp)) A (flag b β p (h ∷ hs) C)
+    unfolding flag
     walked zero h hs m C l g t en = absurd (omega arith)
     walked (suc n) h [] m C l g t en =
         let s : Step h [] m C = step h [] m C g t en in
-        subst (λ (z : List ℕ). EncodesC b N f z A (updC C pt (h .part) (h .vp) (pte b p β (h .rt)))) (sym (pick-yes (eqd (pageOf b (word b m (h .part) 11)) 0) _ _ (s .parent))) (s .after)
+        subst (λ (z : List ℕ). EncodesC b N f z A (updC C pt (h .part) (h .vp) (pte b p β (h .rt)))) (sym (walk-root b β n m (h .part) (h .vp) (s .parent))) (s .after)
     walked (suc n) h (u ∷ us) m C l g t en =
         let s : Step h (u ∷ us) m C = step h (u ∷ us) m C g t en in
         let nz : u .part ≢ 0 = λ e. header-desc (wf .head-role) (rw e at (g .1 .0 .live)) in
         let r = walked n u us _ _ (omega arith) (g .1) (fits-upd A a p (u ∷ us) C (h .part) (h .vp) (pte b p β (h .rt)) (g .1) (omega (arith, hop-depth A p h (u ∷ us) (g .0))) (t .1)) (s .after) in
-        subst (λ (z : List ℕ). EncodesC b N f z A (flag b β p (u ∷ us) (updC C pt (h .part) (h .vp) (pte b p β (h .rt))))) (sym (pick-no (eqd (pageOf b (word b m (h .part) 11)) 0) _ _ (λ z. nz (sym (s .parent) ∙ z)))) (rw (s .parent, s .next) r)
+        subst (λ (z : List ℕ). EncodesC b N f z A (flag b β p (u ∷ us) (updC C pt (h .part) (h .vp) (pte b p β (h .rt))))) (sym (walk-up b β n m (h .part) (h .vp) (u .vp) (λ z. nz (sym (s .parent) ∙ z)) (s .next))) (rw (s .parent) r)
 
   -- only the values of the cells count
   pub encodes-ext : (N : ℕ) (f m : List ℕ) (A : Abs) (C D : Cells) → ((k : Kind) (d v : ℕ) → C k d v ≡ D k d v) → EncodesC b N f m A C → EncodesC b N f m A D
@@ -235,12 +247,12 @@ module _ {b : ℕ} (wide : 6 ≤ b) where
             let u : upd (A .role) p R q ≡ A .role q = upd-other (A .role) p R q e in
             wipe-other wide m p q j β e ∙ en .says q j l β (ap isHand (sym u) ∙ n) ∙ role-same C (A .role q) q j ∙ ap (λ (r : Role). roleWord b f (setRole A p R) C r q j) (sym u)
 
-    pub passed : (m : List ℕ) → Encodes b N f m A → Encodes b N f (walk wide (isHand R) 9 (wipe b m p) (h .part) (h .vp)) (setRole A p R)
+    pub passed : (m : List ℕ) → Encodes b N f m A → Encodes b N f (walk b (isHand R) 9 (wipe b m p) (h .part) (h .vp)) (setRole A p R)
     passed m en =
         let B : Abs = setRole A p R in
         let wB : WF b N fl B = role-wf wide N fl A wf p R free Free h hs is in
         let g : Good b B p (h ∷ hs) = rw is at (wB .good p) in
         let t : Fits b (isHand (A .role p)) (cell b A) p (h ∷ hs) = rw is at (fits N fl A wf p) in
         let l : length (A .chain (h .part)) ≡ length hs = hop-depth B p h hs (g .0) in
-        let e : EncodesC b N f (walk wide (isHand R) 9 (wipe b m p) (h .part) (h .vp)) B (flag b (isHand R) p (h ∷ hs) (cell b A)) = walked N fl f B wB p (isHand (A .role p)) (isHand R) 9 h hs (wipe b m p) (cell b A) (omega (arith, wB .depth (h .part) (g .0 .live))) g t (wiped m (cell b A) en) in
+        let e : EncodesC b N f (walk b (isHand R) 9 (wipe b m p) (h .part) (h .vp)) B (flag b (isHand R) p (h ∷ hs) (cell b A)) = walked N fl f B wB p (isHand (A .role p)) (isHand R) 9 h hs (wipe b m p) (cell b A) (omega (arith, wB .depth (h .part) (g .0 .live))) g t (wiped m (cell b A) en) in
         encodes-ext N f _ B _ (cell b B) (λ k d v. (rw (← is) refl) ∙ sym (flagged N fl A wf p R (free-own R Free ∙ sym (free-own (A .role p) free)) k d v)) e
