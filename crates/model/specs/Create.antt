@@ -7,6 +7,7 @@ use mathlib.Core.List.{List, [], _∷_}
 use Prim.Native.Nat.{ℕ, zero, suc, _≤_, _<_}
 use native.Mathlib.Omega.{arith}
 use lib.ListN.{length}
+use Rattle.rules.specs.Moves.{takePage, takeAll}
 use Rattle.model.specs.Base.{eqd, pick, pick-yes, pick-no, upd, upd-same, upd-other}
 use Rattle.model.specs.Words.{W, addr, word, put, idx, off, pageOf, accOf, pageOf-pte, pageOf-addr, putL, wipe, twelve-lt}
 use Rattle.model.specs.Abs.{Kind, pt, s1, s2, Role, hand, blank, desc, Hop, Abs, headV, headP, seek, Good, WF, Encodes, isHand, cell, seenWord, descList}
@@ -14,55 +15,9 @@ use Rattle.model.specs.Facts.{seek-here, differ, length-parts}
 use Rattle.model.specs.Read.{tablePage, entryAt, entry-is, kernel-lt, cell-some, hand-view}
 use Rattle.model.specs.Roles.{setRole, isFree, role-wf, up}
 use Rattle.model.specs.Walk.{walk, passed, parent-word}
+use Rattle.model.specs.Take.{Held, held-step, held-maps, held-one, held-page, take-one, view-held}
 use Rattle.model.specs.Fill.{First, FillPre, fillA, fill-wf, FillView, is-D, is-P, is-L, is-old, view}
 use Rattle.model.specs.FillWords.{fillM, fill-words}
-
-module _ {b : ℕ} (wide : 6 ≤ b) where
-  unfoldable pub takeM : List ℕ → ℕ → ℕ → List ℕ
-  takeM m o v = walk b false 9 (wipe b m (pageOf b (entryAt b m pt o v))) o v
-
--- a page in o's hand at v
-pub record Held (A : Abs) (o v p : ℕ) : Type 0 where
-  pub in-hand : A .role p ≡ hand
-  pub hop : Hop
-  pub rest : List Hop
-  pub is : A .chain p ≡ hop ∷ rest
-  pub part : hop .part ≡ o
-  pub vp : hop .vp ≡ v
-
-pub held-step : (A : Abs) (o v q p : ℕ) (R : Role) → q ≢ p → Held A o v q → Held (setRole A p R) o v q
-held-step A o v q p R n h = record { in-hand = upd-other (A .role) p R q n ∙ h .in-hand; hop = h .hop; rest = h .rest; is = h .is; part = h .part; vp = h .vp }
-
-module _ {b : ℕ} (wide : 6 ≤ b) where
-  module _ (N : ℕ) (fl : ℕ → Option ℕ) (f : List ℕ) (A : Abs) (wf : WF b N fl A) where
-    pub held-maps : (o v p : ℕ) → Held A o v p → A .maps o v ≡ some p
-    held-maps o v p h =
-        let g : Good b A p (h .hop ∷ h .rest) = rw (h .is) at (wf .good p) in
-        rw (h .part, h .vp) at (g .0 .mapped)
-
-    -- one place, one page
-    pub held-one : (o v u p : ℕ) → Held A o v p → Held A o u p → v ≡ u
-    held-one o v u p h k =
-        let e : h .hop ∷ h .rest ≡ k .hop ∷ k .rest = sym (h .is) ∙ k .is in
-        let w : h .hop ≡ k .hop = cc in
-        sym (h .vp) ∙ ap (λ (x : Hop). x .vp) w ∙ k .vp
-
-    held-page : (o v p : ℕ) → Held A o v p → pageOf b (cell b A pt o v) ≡ p
-    unfolding seenWord
-    held-page o v p h =
-        let g : Good b A p (h .hop ∷ h .rest) = rw (h .is) at (wf .good p) in
-        let w : seek none o (A .chain p) ≡ some (record { vp = h .hop .vp; rt = h .hop .rt; up = headV (h .rest); below = none }) = rw (h .is) (seek-here none o (h .hop) (h .rest) (sym (h .part))) in
-        rw (cell-some wide A pt o v p _ (held-maps o v p h) w) (pageOf-pte wide p _ (h .hop .rt) (g .0 .small))
-
-    pub take-one : (m : List ℕ) (o v p : ℕ) → Encodes b N f m A → A .role o ≡ desc → idx b v < W b → Held A o v p → WF b N fl (setRole A p blank) × Encodes b N f (takeM wide m o v) (setRole A p blank)
-    unfolding takeM
-    take-one m o v p en lo β h = (
-      role-wf wide N fl A wf p blank (ap isFree (h .in-hand)) refl (h .hop) (h .rest) (h .is),
-      rw (entry-is wide N fl A wf f m en pt o v lo β, held-page o v p h, ← (h .part), ← (h .vp)) (passed wide N fl f A wf p blank (ap isFree (h .in-hand)) refl (h .hop) (h .rest) (h .is) m en),
-    )
-
-    pub view-held : (o v : ℕ) → accOf (cell b A pt o v) ≡ 1 → cell b A s1 o v ≡ 0 → (p : ℕ) × Held A o v p
-    view-held o v a z = let x = hand-view wide N fl A wf o v a z in (x .0, record { in-hand = x .1; hop = x .2 .hop; rest = x .2 .rest; is = x .2 .is; part = x .2 .part; vp = x .2 .vp })
 
 module _ (b : ℕ) where
   -- how many partitions are above d
@@ -70,13 +25,13 @@ module _ (b : ℕ) where
   depthM zero m d = 0
   depthM (suc n) m d = pick (eqd (pageOf b (word b m d 11)) 0) 0 (suc (depthM n m (pageOf b (word b m d 11))))
 
-module _ {b : ℕ} (wide : 6 ≤ b) where
+module _ (b : ℕ) where
   unfoldable pub createM : List ℕ → ℕ → ℕ → (Kind → ℕ) → ℕ → List ℕ
   createM m o v vr w =
       let D : ℕ = pageOf b (entryAt b m pt o v) in
       let P : Kind → ℕ = λ k. pageOf b (entryAt b m pt o (vr k)) in
       let L : ℕ = pageOf b (entryAt b m pt o w) in
-      let m5 : List ℕ = takeM wide (takeM wide (takeM wide (takeM wide (takeM wide m o v) o (vr pt)) o (vr s1)) o (vr s2)) o w in
+      let m5 : List ℕ = takeAll b m o (addr b v ∷ addr b (vr pt) ∷ addr b (vr s1) ∷ addr b (vr s2) ∷ addr b w ∷ []) in
       let m6 : List ℕ = putL b (putL b m5 D 0 (addr b v ∷ addr b D ∷ addr b (vr pt) ∷ addr b (P pt) ∷ addr b (vr s1) ∷ addr b (P s1) ∷ addr b (vr s2) ∷ addr b (P s2) ∷ addr b w ∷ addr b L ∷ 0 ∷ addr b o ∷ [])) L 0 (1 ∷ []) in
       put b m6 (tablePage b m6 s1 o v) (off b v) 1
 
@@ -194,19 +149,19 @@ module _ {b : ℕ} (wide : 6 ≤ b) where
       live-stays X x p h e = upd-other (X .role) p blank o (λ y. differ (sym (h .in-hand) ∙ (rw y at e)) (omega arith)) ∙ e
 
       abbrev m1 : List ℕ
-      m1 = takeM wide m o v
+      m1 = takePage b m o (addr b v)
 
       abbrev m2 : List ℕ
-      m2 = takeM wide m1 o (vr pt)
+      m2 = takePage b m1 o (addr b (vr pt))
 
       abbrev m3 : List ℕ
-      m3 = takeM wide m2 o (vr s1)
+      m3 = takePage b m2 o (addr b (vr s1))
 
       abbrev m4 : List ℕ
-      m4 = takeM wide m3 o (vr s2)
+      m4 = takePage b m3 o (addr b (vr s2))
 
       abbrev m5 : List ℕ
-      m5 = takeM wide m4 o w
+      m5 = takePage b m4 o (addr b w)
 
       -- all five are taken
       taken : WF b N fl A5 × Encodes b N f m5 A5 × (A5 .role o ≡ desc)
@@ -279,7 +234,7 @@ module _ {b : ℕ} (wide : 6 ≤ b) where
       abbrev done : List ℕ → ℕ → List ℕ
       done ws x = let m6 : List ℕ = putL b (putL b m5 D 0 ws) L 0 (1 ∷ []) in put b m6 (tablePage b m6 s1 o x) (off b x) 1
 
-      create-is : createM wide m o v vr w ≡ done (addr b v ∷ addr b D ∷ addr b (vr pt) ∷ addr b (P pt) ∷ addr b (vr s1) ∷ addr b (P s1) ∷ addr b (vr s2) ∷ addr b (P s2) ∷ addr b w ∷ addr b L ∷ 0 ∷ addr b o ∷ []) v
+      create-is : createM b m o v vr w ≡ done (addr b v ∷ addr b D ∷ addr b (vr pt) ∷ addr b (P pt) ∷ addr b (vr s1) ∷ addr b (P s1) ∷ addr b (vr s2) ∷ addr b (P s2) ∷ addr b w ∷ addr b L ∷ 0 ∷ addr b o ∷ []) v
       unfolding createM
       create-is = rw (page-is v D (ck .v-hand) hD, page-is (vr pt) (P pt) (ck .vr-hand pt) (hP pt), page-is (vr s1) (P s1) (ck .vr-hand s1) (hP s1), page-is (vr s2) (P s2) (ck .vr-hand s2) (hP s2), page-is w L (ck .w-hand) hL) refl
 
@@ -287,9 +242,9 @@ module _ {b : ℕ} (wide : 6 ≤ b) where
       unfolding fillM fill-pre first
       fill-is = ap (done (descList b (fillA A5 D P L) D)) (hD .vp)
 
-      pub create-words : WF b N fl (fillA A5 D P L) × Encodes b N f (createM wide m o v vr w) (fillA A5 D P L)
+      pub create-words : WF b N fl (fillA A5 D P L) × Encodes b N f (createM b m o v vr w) (fillA A5 D P L)
       create-words =
-          let e : createM wide m o v vr w ≡ fillM wide N fl f A5 (taken .0) o D P L fill-pre m5 = create-is ∙ sym (fill-is ∙ ap (λ (ws : List ℕ). done ws v) desc-is) in
+          let e : createM b m o v vr w ≡ fillM wide N fl f A5 (taken .0) o D P L fill-pre m5 = create-is ∙ sym (fill-is ∙ ap (λ (ws : List ℕ). done ws v) desc-is) in
           (fill-wf wide N fl A5 (taken .0) o D P L fill-pre, subst (λ (z : List ℕ). Encodes b N f z (fillA A5 D P L)) (sym e) (fill-words wide N fl f A5 (taken .0) o D P L fill-pre m5 (taken .1)))
 
       -- no page is left blank

@@ -278,5 +278,5 @@ module _ {b : ℕ} (wide : 6 ≤ b) where
             let x = hop-of p (A .chain p) t (wf .good p) a in
             absurd (no-in (in-left p (lentPages (words b)) (five ++ threePages (A .threes D)) (lent-in (words b) (x .0) p (below-idx wide (x .0) (x .2)) (x .1))))
 
-    pub deleted : Encodes b N f (releasesM wide o m (placesM b m D)) (delA A D)
+    pub deleted : Encodes b N f (releasesM b o m (placesM b m D)) (delA A D)
     deleted = del-words wide N fl f A wf o D pre (placesM b m D) (marks pages (none-yet wide N fl f A wf o D pre)) m en (listed-places (placesM b m D) pages (none-yet wide N fl f A wf o D pre) all-listed) covers

@@ -16,7 +16,7 @@ use Rattle.model.specs.Cells.{updC, updC-same, updC-other, put-cell, tab
 use Rattle.model.specs.Walk.{walk, walked, flag, flag-kind, flag-none, flag-hit, Fits, fits, hop-depth}
 use Rattle.model.specs.Delete.{after, after-here, after-on, after-nil, cut, cut-none, cut-some, Fate, fate, through, owned, stays, delA, DelPre, Stays, used, gone, kept, with-owner, owner-with, seek-after, after-good, after-clear, maps-used, maps-stays, o-stays, D-parts, del-wf}
 
-module _ {b : ℕ} (wide : 6 ≤ b) where
+module _ (b : ℕ) where
   -- on the words: shadow 1 is cleared at u in o; a page that was not accessible is wiped, and accessible again
   unfoldable pub releaseM : ℕ → List ℕ → ℕ → List ℕ
   releaseM o m u =
@@ -27,6 +27,7 @@ module _ {b : ℕ} (wide : 6 ≤ b) where
   releasesM o m [] = m
   releasesM o m (u ∷ us) = releasesM o (releaseM o m u) us
 
+module _ {b : ℕ} (wide : 6 ≤ b) where
   -- only the cells of live partitions count
   pub ext-live : (N : ℕ) (fl : ℕ → Option ℕ) (f m : List ℕ) (A : Abs) → WF b N fl A → (C E : Cells) → ((k : Kind) (d v : ℕ) → A .role d ≡ desc → C k d v ≡ E k d v) → EncodesC b N f m A C → EncodesC b N f m A E
   unfolding roleWord
@@ -439,7 +440,7 @@ module _ {b : ℕ} (wide : 6 ≤ b) where
           let w′ : A .maps d v ≡ some p = maps-used wide N fl A wf o D pre d v p w .1 in
           (m0 pt d v w′ ∙ sym (updC-other (mix S) s1 o u 0 pt d v (λ y. pt-s1 (y .0))), m0 s2 d v w′ ∙ sym (updC-other (mix S) s1 o u 0 s2 d v (λ y. s1-s2 (sym (y .0)))))) g t′
 
-      pub released : (m : List ℕ) → EncodesC b N f m B (mix S) → EncodesC b N f (releaseM wide o m u) B (mix S′)
+      pub released : (m : List ℕ) → EncodesC b N f m B (mix S) → EncodesC b N f (releaseM b o m u) B (mix S′)
       unfolding releaseM
       released m en = go (open-or m en)
         where
@@ -472,12 +473,12 @@ module _ {b : ℕ} (wide : 6 ≤ b) where
       done : {S : ℕ → Bool} → Places [] S S
       next : {u : ℕ} {us : List ℕ} {S T : ℕ → Bool} (p : ℕ) (x : Back p) → u ≡ x .hop .vp → Places us (upd S p true) T → Places (u ∷ us) S T
 
-    pub all-released : (us : List ℕ) (S T : ℕ → Bool) (m : List ℕ) → Places us S T → EncodesC b N f m B (mix S) → EncodesC b N f (releasesM wide o m us) B (mix T)
+    pub all-released : (us : List ℕ) (S T : ℕ → Bool) (m : List ℕ) → Places us S T → EncodesC b N f m B (mix S) → EncodesC b N f (releasesM b o m us) B (mix T)
     unfolding releasesM
     all-released us S T m done en = en
-    all-released us S T m (next {u = w} {us = vs} p x e r) en = all-released vs (upd S p true) T (releaseM wide o m w) r (subst (λ (z : ℕ). EncodesC b N f (releaseM wide o m z) B (mix (upd S p true))) (sym e) (released p x S m en))
+    all-released us S T m (next {u = w} {us = vs} p x e r) en = all-released vs (upd S p true) T (releaseM b o m w) r (subst (λ (z : ℕ). EncodesC b N f (releaseM b o m z) B (mix (upd S p true))) (sym e) (released p x S m en))
 
-    pub del-words : (us : List ℕ) (T : ℕ → Bool) (m : List ℕ) → Encodes b N f m A → Places us none-yet T → ((p : ℕ) → T p ≡ false → p < N → Stays A D p) → Encodes b N f (releasesM wide o m us) B
+    pub del-words : (us : List ℕ) (T : ℕ → Bool) (m : List ℕ) → Encodes b N f m A → Places us none-yet T → ((p : ℕ) → T p ≡ false → p < N → Stays A D p) → Encodes b N f (releasesM b o m us) B
     unfolding choose
     del-words us T m en pl all =
         ext-live wide N fl f _ B wB (mix T) (cell b B) finish (all-released us none-yet T m pl (ext-live wide N fl f m B wB (cell b A) (mix none-yet) begin (start m en)))

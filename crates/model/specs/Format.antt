@@ -45,10 +45,10 @@ kind-lt s2 = omega arith
 
 module _ (N T : ℕ) where
   -- the table pages, from page 6
-  lateRole : ℕ → Role
+  unfoldable pub lateRole : ℕ → Role
   lateRole n = pick (decLt n (3 * T)) (tab (kindAt (n % 3)) 1 (n / 3)) hand
 
-  role0 : ℕ → Role
+  unfoldable pub role0 : ℕ → Role
   role0 zero = header
   role0 (suc zero) = desc
   role0 (suc (suc zero)) = root pt 1
@@ -57,30 +57,30 @@ module _ (N T : ℕ) where
   role0 (suc (suc (suc (suc (suc zero))))) = lst 1
   role0 (suc (suc (suc (suc (suc (suc n)))))) = lateRole n
 
-  flatHop : ℕ → Hop
+  unfoldable pub flatHop : ℕ → Hop
   flatHop p = record { part = 1; vp = p - (5 + 3 * T); rt = 7 }
 
-  chain0 : ℕ → List Hop
+  unfoldable pub chain0 : ℕ → List Hop
   chain0 p = pick (decLt p (6 + 3 * T)) [] (pick (decLt p N) (flatHop p ∷ []) [])
 
   -- the root's map
-  pub flat0 : ℕ → Option ℕ
+  unfoldable pub flat0 : ℕ → Option ℕ
   flat0 v = pick (decLt 0 v) (pick (decLt (5 + 3 * T + v) N) (some (5 + 3 * T + v)) none) none
 
-  maps0 : ℕ → ℕ → Option ℕ
+  unfoldable pub maps0 : ℕ → ℕ → Option ℕ
   maps0 d v = pick (eqd d 1) (flat0 v) none
 
-  rootp0 : Kind → ℕ → ℕ
+  unfoldable pub rootp0 : Kind → ℕ → ℕ
   rootp0 k d = 2 + kindNo k
 
-  three0 : ℕ → Three
+  unfoldable pub three0 : ℕ → Three
   three0 i = record { at = i; page = λ k. 6 + 3 * i + kindNo k }
 
-  upTo : ℕ → List Three
+  unfoldable pub upTo : ℕ → List Three
   upTo zero = []
   upTo (suc n) = upTo n ++ three0 n ∷ []
 
-  pub start : Abs
+  unfoldable pub start : Abs
   start = record { role = role0; chain = chain0; maps = maps0; rootp = rootp0; lstp = λ d. 5; threes = λ d. pick (eqd d 1) (upTo T) []; cur = 1 }
 
   -- lookups among the threes

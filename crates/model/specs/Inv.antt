@@ -74,7 +74,7 @@ module _ {b : ℕ} (wide : 6 ≤ b) where
         let x = rem-words wide N fl f m A (i .wf) (i .words) (curM b m) live c t ck in
         record { state = remA A (x .0 .p) (x .0 .c) t (x .0 .hop) (x .0 .rest); wf = x .1; full = i .full; words = x .2 }
 
-    pub inv-create : (v : ℕ) (vr : Kind → ℕ) (w : ℕ) → CreateChecks b m (curM b m) v vr w → Inv b N fl f (createM wide m (curM b m) v vr w)
+    pub inv-create : (v : ℕ) (vr : Kind → ℕ) (w : ℕ) → CreateChecks b m (curM b m) v vr w → Inv b N fl f (createM b m (curM b m) v vr w)
     inv-create v vr w ck =
         let x = create-words wide N fl f m A (i .wf) (i .words) (curM b m) live v vr w ck in
         record { state = _; wf = x .0; full = no-blank-left wide N fl f m A (i .wf) (i .words) (curM b m) live v vr w ck (i .full); words = x .1 }
@@ -87,7 +87,7 @@ module _ {b : ℕ} (wide : 6 ≤ b) where
 
     -- the places are those that the words of the child list
     pub inv-delete : (v : ℕ) (β : idx b v < W b) (e : entryAt b m s1 (curM b m) v ≡ 1)
-        → Inv b N fl f (releasesM wide (curM b m) m (placesM b m (pageOf b (entryAt b m pt (curM b m) v))))
+        → Inv b N fl f (releasesM b (curM b m) m (placesM b m (pageOf b (entryAt b m pt (curM b m) v))))
     unfolding delRole fateRole
     inv-delete v β e =
         let D = pageOf b (entryAt b m pt (curM b m) v) in
@@ -213,10 +213,10 @@ module _ {b : ℕ} (wide : 6 ≤ b) where
 
   -- one call that passes its checks
   pub data Step (m : List ℕ) : List ℕ → Type 0 where
-    create : (v : ℕ) (vr : Kind → ℕ) (w : ℕ) → CreateChecks b m (curM b m) v vr w → Step m (createM wide m (curM b m) v vr w)
+    create : (v : ℕ) (vr : Kind → ℕ) (w : ℕ) → CreateChecks b m (curM b m) v vr w → Step m (createM b m (curM b m) v vr w)
     add : (v c t r : ℕ) → AddChecks b m (curM b m) v c t r → Step m (addM b m (curM b m) v c t r)
     remove : (c t : ℕ) → RemChecks b m (curM b m) c t → Step m (remM b m (curM b m) c t)
-    delete : (v : ℕ) → idx b v < W b → entryAt b m s1 (curM b m) v ≡ 1 → Step m (releasesM wide (curM b m) m (placesM b m (pageOf b (entryAt b m pt (curM b m) v))))
+    delete : (v : ℕ) → idx b v < W b → entryAt b m s1 (curM b m) v ≡ 1 → Step m (releasesM b (curM b m) m (placesM b m (pageOf b (entryAt b m pt (curM b m) v))))
     enter : (v : ℕ) → idx b v < W b → entryAt b m s1 (curM b m) v ≡ 1 → Step m (put b m 0 4 (addr b (pageOf b (entryAt b m pt (curM b m) v))))
     store : (v j x : ℕ) → idx b v < W b → j < W b → entryAt b m pt (curM b m) v ≢ 0 → accOf (entryAt b m pt (curM b m) v) ≡ 1 → Step m (put b m (pageOf b (entryAt b m pt (curM b m) v)) j x)
 

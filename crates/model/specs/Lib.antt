@@ -11,6 +11,7 @@ pub mod Roles
 pub mod Walk
 pub mod Fill
 pub mod FillWords
+pub mod Take
 pub mod Create
 pub mod Sound
 pub mod Delete
