@@ -8,7 +8,7 @@ use Prim.Native.Nat.{ℕ, _≤_, _<_}
 use native.Mathlib.Omega.{arith}
 use Rattle.model.specs.Base.{eqd, both, upd-same, upd-other, upd2-same, upd2-other}
 use Rattle.model.specs.Words.{W, addr, put, idx, off, pte, pageOf, accOf, rightsOf, pte-nz}
-use Rattle.model.specs.Abs.{Kind, pt, s1, s2, desc, tab, Three, Abs, headV, Seen, seek, threeAt, Sub, Good, WF, Cells, Encodes, isHand, lentWord, seenWord, cell}
+use Rattle.model.specs.Abs.{Kind, pt, s1, s2, desc, tab, Abs, headV, Seen, seek, Sub, Good, WF, Cells, Encodes, isHand, lentWord, seenWord, cell}
 use Rattle.model.specs.Facts.{seek-here, seek-on, none-some, some-inj, not-hand, below-is}
 use Rattle.model.specs.Read.{tablePage, tableAt, three-there, entryAt, entry-is, entry-three, maps-three, cell-none, cell-some, kernel-lt, hand-view, child-view}
 use Rattle.model.specs.Cells.{updC, updC-same, updC-other, put-cell, tab-one, rechained}

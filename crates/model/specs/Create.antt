@@ -2,20 +2,20 @@
 use mathlib.Core.Path.{_≡_, refl, sym, ap, _∙_, subst}
 use mathlib.Core.Logic.{_≢_}
 use mathlib.Core.Bool.{false}
-use mathlib.Core.Option.{Option, none, some}
+use mathlib.Core.Option.{Option}
 use mathlib.Core.List.{List, [], _∷_}
 use Prim.Native.Nat.{ℕ, zero, suc, _≤_, _<_}
 use native.Mathlib.Omega.{arith}
 use lib.ListN.{length}
 use Rattle.rules.specs.Moves.{takePage, takeAll}
 use Rattle.model.specs.Base.{eqd, pick, pick-yes, pick-no, upd, upd-same, upd-other}
-use Rattle.model.specs.Words.{W, addr, word, put, idx, off, pageOf, accOf, pageOf-pte, pageOf-addr, putL, wipe, twelve-lt}
-use Rattle.model.specs.Abs.{Kind, pt, s1, s2, Role, hand, blank, desc, Hop, Abs, headV, headP, seek, Good, WF, Encodes, isHand, cell, seenWord, descList}
-use Rattle.model.specs.Facts.{seek-here, differ, length-parts}
-use Rattle.model.specs.Read.{tablePage, entryAt, entry-is, kernel-lt, cell-some, hand-view}
-use Rattle.model.specs.Roles.{setRole, isFree, role-wf, up}
-use Rattle.model.specs.Walk.{walk, passed, parent-word}
-use Rattle.model.specs.Take.{Held, held-step, held-maps, held-one, held-page, take-one, view-held}
+use Rattle.model.specs.Words.{W, addr, word, put, idx, off, pageOf, accOf, pageOf-addr, putL, twelve-lt}
+use Rattle.model.specs.Abs.{Kind, pt, s1, s2, blank, desc, Hop, Abs, headV, headP, Good, WF, Encodes, isHand, cell, descList}
+use Rattle.model.specs.Facts.{differ, length-parts, not-root}
+use Rattle.model.specs.Read.{tablePage, entryAt, entry-is, kernel-lt}
+use Rattle.model.specs.Roles.{setRole}
+use Rattle.model.specs.Walk.{parent-word}
+use Rattle.model.specs.Take.{Held, held-step, held-one, held-page, take-one, view-held}
 use Rattle.model.specs.Fill.{First, FillPre, fillA, fill-wf, FillView, is-D, is-P, is-L, is-old, view}
 use Rattle.model.specs.FillWords.{fillM, fill-words}
 
@@ -241,6 +241,13 @@ module _ {b : ℕ} (wide : 6 ≤ b) where
       fill-is : fillM wide N fl f A5 (taken .0) o D P L fill-pre m5 ≡ done (descList b (fillA A5 D P L) D) v
       unfolding fillM fill-pre first
       fill-is = ap (done (descList b (fillA A5 D P L) D)) (hD .vp)
+
+      -- the root's pages are as they were
+      D-root : 1 ≢ D
+      D-root = not-root wide N fl A wf D (hD .hop) (hD .rest) (hD .is)
+
+      pub create-root : ((k : Kind) → fillA A5 D P L .rootp k 1 ≡ A .rootp k 1) × (fillA A5 D P L .lstp 1 ≡ A .lstp 1) × (fillA A5 D P L .threes 1 ≡ A .threes 1)
+      create-root = (λ k. upd-other (A .rootp k) D (P k) 1 D-root, upd-other (A .lstp) D L 1 D-root, upd-other (A .threes) D [] 1 D-root)
 
       pub create-words : WF b N fl (fillA A5 D P L) × Encodes b N f (createM b m o v vr w) (fillA A5 D P L)
       create-words =

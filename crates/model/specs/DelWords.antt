@@ -8,7 +8,7 @@ use Prim.Native.Nat.{ℕ, _+_, _*_, _≤_, _<_}
 use native.Mathlib.Omega.{arith}
 use lib.ListN.{length, getD}
 use Rattle.model.specs.Base.{eqd, pick, pick-yes, pick-no, upd, upd-same, upd-other}
-use Rattle.model.specs.Words.{W, addr, word, put, join, idx, off, pte, bit, pageOf, accOf, pageOf-pte, accOf-pte, wipe, wipe-sized, wipe-other}
+use Rattle.model.specs.Words.{W, addr, word, put, join, idx, off, pte, pageOf, accOf, pageOf-pte, accOf-pte, wipe, wipe-sized, wipe-other}
 use Rattle.model.specs.Abs.{Kind, pt, s1, s2, Role, header, hand, blank, desc, root, lst, tab, Hop, Three, Abs, parts, headV, Seen, seek, threeAt, GoodHop, Good, Owner, Tabs, WF, Cells, Encodes, EncodesC, isHand, ownWord, lentWord, seenWord, cell, roleWord, descList, headList, listList, listPairs}
 use Rattle.model.specs.Facts.{nil-cons, seek-here, seek-on, seek-nil, none-some, some-inj, not-hand, below-is, Like, like, in-range, Top, top as top-hop, is-hand}
 use Rattle.model.specs.Read.{tablePage, entryAt, entry-three, kernel-lt, cell-none, cell-some}

@@ -5,6 +5,7 @@ pub mod Facts
 pub mod Add
 pub mod Read
 pub mod Cells
+pub mod Names
 pub mod AddWords
 pub mod Remove
 pub mod Roles
@@ -23,3 +24,5 @@ pub mod Collect
 pub mod CollWords
 pub mod Format
 pub mod Inv
+pub mod Move
+pub mod Keep

@@ -9,7 +9,7 @@ use native.Mathlib.Omega.{arith}
 use native.Mathlib.Decide.{decLt}
 use Rattle.memory.specs.Partition
 use Rattle.memory.proofs.Tables.{tableWord-absent, tableWord-present, putTableWord-present}
-use Rattle.model.specs.Base.{eqd, pick, pick-yes, pick-no}
+use Rattle.model.specs.Base.{eqd, pick-yes, pick-no}
 use Rattle.model.specs.Words.{W, addr, word, put, idx, off, pte, link, link-nz, bit, pageOf, accOf, rightsOf, pageOf-addr, pageOf-link, pageOf-zero, pageOf-pte, accOf-pte, rightsOf-pte, addr-nz, addr-not-one, accOf-zero, off-lt, join-cut, twelve-lt}
 use Rattle.model.specs.Abs.{Kind, pt, s1, s2, Role, header, hand, blank, desc, root, lst, tab, Hop, Three, Abs, parts, headV, Seen, seek, threeAt, Good, Tabs, WF, Cells, Encodes, EncodesC, isHand, ownWord, lentWord, seenWord, pageWord, cell, linkWord, descList, roleWord}
 use Rattle.model.specs.Facts.{none-some, some-inj, Hit, hit, nil-cons, Top, top, not-hand, is-hand, below-is}

@@ -5,15 +5,13 @@ use mathlib.Core.Bool.{true, false}
 use mathlib.Core.Option.{Option, none, some}
 use mathlib.Core.List.{List, _∷_}
 use Prim.Native.Nat.{ℕ, _≤_, _<_}
-use native.Mathlib.Omega.{arith}
-use Rattle.memory.specs.Geometry.{address}
 use Rattle.memory.proofs.Geometry.{page-address}
 use Rattle.rules.specs.Moves.{takePage, returnPage}
 use Rattle.model.specs.Base.{upd-other}
 use Rattle.model.specs.Words.{W, addr, idx, pageOf, accOf, pageOf-pte, wipe}
-use Rattle.model.specs.Abs.{Kind, pt, s1, Role, hand, blank, desc, Hop, Abs, headV, seek, Good, WF, Encodes, cell, seenWord}
+use Rattle.model.specs.Abs.{pt, s1, Role, hand, blank, desc, Hop, Abs, headV, seek, Good, WF, Encodes, cell, seenWord}
 use Rattle.model.specs.Facts.{seek-here}
-use Rattle.model.specs.Read.{rootPage, entryAt, entry-is, cell-some, hand-view, maps-three, ThreeIs, three-is}
+use Rattle.model.specs.Read.{rootPage, entryAt, entry-is, cell-some, hand-view, maps-three, three-is}
 use Rattle.model.specs.Roles.{setRole, isFree, role-wf}
 use Rattle.model.specs.Walk.{walk, passed}
 use Rattle.model.specs.Fill.{First}

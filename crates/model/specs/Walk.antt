@@ -11,8 +11,8 @@ use Rattle.memory.specs.Geometry.{address}
 use Rattle.memory.proofs.Geometry.{page-address}
 use Rattle.rules.specs.Moves.{mark}
 use Rattle.rules.proofs.Turns.{mark-root, mark-up}
-use Rattle.model.specs.Base.{eqd, pick, pick-yes, pick-no, upd, upd-same, upd-other}
-use Rattle.model.specs.Words.{bit, W, addr, word, put, off, pte, pageOf, pageOf-addr, setAcc, setAcc-pte, wipe, wipe-sized, wipe-other, wipe-same, twelve-lt}
+use Rattle.model.specs.Base.{eqd, upd, upd-same, upd-other}
+use Rattle.model.specs.Words.{bit, W, addr, word, pte, pageOf, pageOf-addr, setAcc, setAcc-pte, wipe, wipe-sized, wipe-other, wipe-same, twelve-lt}
 use Rattle.model.specs.Abs.{Kind, pt, s1, s2, Role, header, hand, blank, desc, root, lst, tab, Hop, Abs, parts, headV, headP, Seen, seek, GoodHop, Good, WF, Cells, Encodes, EncodesC, isHand, ownWord, lentWord, seenWord, cell, roleWord, descList, headList}
 use Rattle.model.specs.Facts.{in-range, nil-cons, length-parts, seek-here, seek-on, seek-nil, none-some, some-inj}
 use Rattle.model.specs.Read.{rootPage, entryAt, putAt, entry-three, kernel-lt, cell-none, cell-some}

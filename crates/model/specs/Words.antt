@@ -4,21 +4,21 @@ use mathlib.Core.Path.{_≡_, refl, sym, ap, _∙_, subst}
 use mathlib.Core.Logic.{_≢_, _⊎_, inl, inr}
 use mathlib.Core.Bool.{Bool, true, false}
 use mathlib.Core.List.{List, [], _∷_}
-use Prim.Native.Nat.{ℕ, zero, suc, _+_, _-_, _*_, _/_, _%_, _^_, _≤_, _<_}
+use Prim.Native.Nat.{ℕ, zero, suc, _+_, _*_, _^_, _≤_, _<_}
 use native.Mathlib.Nat.{mod-lt, div-add-mod', div-lt-iff-lt-mul, zero-mul, suc-mul, not-suc-le-zero, le-of-suc-le-suc}
 use native.Mathlib.Decide.{decLt}
 use native.Mathlib.Omega.{arith}
 use lib.Arith.{digits-lt, digits-div, digits-mod}
 use lib.Pow.{pow-pos}
-use lib.ListN.{length, getD, set, length-set, List·getD-eq-default}
+use lib.ListN.{length, getD, length-set, List·getD-eq-default}
 use lib.Seq.{getD-set-same, getD-set-other}
 use Rattle.memory.specs.Geometry
 use Rattle.memory.specs.Words as Mem
 use Rattle.memory.specs.Entry
-use Rattle.memory.proofs.Geometry.{index-inj, bytes-pos, page-address, address-inj}
+use Rattle.memory.proofs.Geometry.{index-inj, page-address, address-inj}
 use Rattle.memory.proofs.Overwrite.{length-overwrite, overwrite-before, overwrite-after, overwrite-at}
 use Rattle.memory.proofs.Pages.{page-apart, wipe-frame, wipe-own, length-wipe}
-use Rattle.memory.proofs.Entry.{entry-page, entry-accessible, entry-rights, entry-present}
+use Rattle.memory.proofs.Entry.{entry-page, entry-accessible, entry-rights}
 use Rattle.memory.proofs.Widths.{words-least}
 
 abbrev pub bit : Bool → ℕ
