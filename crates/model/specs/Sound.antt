@@ -20,7 +20,6 @@ module _ (b : ℕ) where
     top : Tree m 1
     below : (d v : ℕ) → Tree m d → idx b v < W b → entryAt b m s1 d v ≡ 1 → Tree m (pageOf b (entryAt b m pt d v))
 
-module _ {b : ℕ} (wide : 6 ≤ b) where
   -- d has a child c, on the words
   pub record Child (m : List ℕ) (d c : ℕ) : Type 0 where
     pub at : ℕ
@@ -102,7 +101,7 @@ module _ {b : ℕ} (wide : 6 ≤ b) where
         record { x = x; small = s; word = w; page = ap (pageOf b) w ∙ pageOf-pte wide (x .page) _ (x .sees .rt) s }
 
     -- no two siblings map one page
-    pub siblings : (d c c′ v v′ : ℕ) → Tree b m d → Child wide m d c → Child wide m d c′ → idx b v < W b → idx b v′ < W b → entryAt b m pt c v ≢ 0 → entryAt b m pt c′ v′ ≢ 0
+    pub siblings : (d c c′ v v′ : ℕ) → Tree b m d → Child b m d c → Child b m d c′ → idx b v < W b → idx b v′ < W b → entryAt b m pt c v ≢ 0 → entryAt b m pt c′ v′ ≢ 0
         → pageOf b (entryAt b m pt c v) ≡ pageOf b (entryAt b m pt c′ v′) → c ≡ c′
     siblings d c c′ v v′ t k k′ β β′ n n′ e =
         let ld : A .role d ≡ desc = live d t in
@@ -128,7 +127,7 @@ module _ {b : ℕ} (wide : 6 ≤ b) where
       pub acc : accOf (entryAt b m pt d (pageOf b (entryAt b m s2 c v))) ≡ accOf (entryAt b m pt c v)
       pub rights : Sub (rightsOf (entryAt b m pt c v)) (rightsOf (entryAt b m pt d (pageOf b (entryAt b m s2 c v))))
 
-    pub above : (d c v : ℕ) → Tree b m d → Child wide m d c → idx b v < W b → entryAt b m pt c v ≢ 0 → Above d c v
+    pub above : (d c v : ℕ) → Tree b m d → Child b m d c → idx b v < W b → entryAt b m pt c v ≢ 0 → Above d c v
     above d c v t k β n = go (pl .rest) refl
       where
         ld : A .role d ≡ desc
