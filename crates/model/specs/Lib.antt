@@ -26,3 +26,5 @@ pub mod Format
 pub mod Inv
 pub mod Move
 pub mod Keep
+pub mod Checks
+pub mod KeepMove
