@@ -28,3 +28,4 @@ pub mod Move
 pub mod Keep
 pub mod Checks
 pub mod KeepMove
+pub mod KeepAdd
