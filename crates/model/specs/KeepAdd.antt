@@ -17,7 +17,7 @@ use Rattle.model.specs.Words.{put, idx, off, pte, pageOf, pageOf-addr}
 use Rattle.model.specs.Abs.{Kind, pt, s1, s2, desc, Hop, Three, threeAt, Abs, GoodHop, Good, Cells, EncodesC, cell}
 use Rattle.model.specs.Facts.{parts-of}
 use Rattle.model.specs.Read.{rootPage, tablePage, entryAt, putAt, put-there, entry-three}
-use Rattle.model.specs.Cells.{updC, set-cell}
+use Rattle.model.specs.Cells.{set-cell}
 use Rattle.model.specs.Add.{newHop}
 use Rattle.model.specs.AddWords.{addM, AddChecks, AddView, add-view}
 use Rattle.model.specs.Remove.{remM, RemChecks, RemView, rem-view}

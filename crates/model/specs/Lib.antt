@@ -29,3 +29,4 @@ pub mod Keep
 pub mod Checks
 pub mod KeepMove
 pub mod KeepAdd
+pub mod KeepCreate
