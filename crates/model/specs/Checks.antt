@@ -13,7 +13,7 @@ use Rattle.memory.specs.Entry.{accessible}
 use Rattle.memory.specs.Partition.{current, mapping, lent, inHand}
 use Rattle.rules.specs.Refusal.{Refusal, DAMAGED, SIZE, ADDRESS, TWICE, CHILD, RIGHTS, HAND, TABLE, TAKEN, LIST, CHAIN, FULL-TABLE, DEPTH, ROOT, UNMAPPED, KERNEL, SHORT, MAGIC, number}
 use Rattle.rules.specs.Row.{Check, _when_, first}
-use Rattle.rules.specs.Conditions.{twice, noChild, child, lacks, noThree, unmapped, mapped}
+use Rattle.rules.specs.Conditions.{twice, noChild, lacks, noThree, unmapped, mapped}
 use Rattle.model.specs.Words.{pageOf, accOf, rightsOf}
 use Rattle.model.specs.Abs.{pt, s1, Sub}
 use Rattle.model.specs.Read.{rootPage, tableAt, entryAt}
@@ -92,10 +92,6 @@ module _ (b : ℕ) (m : List ℕ) where
   pub a-child : (c : ℕ) → noChild b m c ≡ false → entryAt b m s1 (current b m) (pageOf b c) ≡ 1
   unfolding entryAt rootPage pageOf
   a-child c e = eqb-true _ _ (not-false _ e)
-
-  pub child-page : (c : ℕ) → child b m c ≡ pageOf b (entryAt b m pt (current b m) (pageOf b c))
-  unfolding entryAt rootPage pageOf
-  child-page c = refl
 
   module _ (d v : ℕ) where
     pub in-hand : not (inHand b m d v) ≡ false → (accOf (entryAt b m pt d (pageOf b v)) ≡ 1) × (entryAt b m s1 d (pageOf b v) ≡ 0)

@@ -17,7 +17,9 @@ pub mod Create
 pub mod Sound
 pub mod Delete
 pub mod DelWords
-pub mod DelPlaces
+pub mod DelSteps
+pub mod DelLent
+pub mod DelKernel
 pub mod Prep
 pub mod PrepWords
 pub mod Collect
@@ -30,3 +32,4 @@ pub mod Checks
 pub mod KeepMove
 pub mod KeepAdd
 pub mod KeepCreate
+pub mod KeepDelete
