@@ -26,3 +26,6 @@ pub mod Format
 pub mod Inv
 pub mod Move
 pub mod Keep
+pub mod Listing
+pub mod RootWords
+pub mod Formatted
