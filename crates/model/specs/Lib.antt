@@ -29,3 +29,10 @@ pub mod Keep
 pub mod Listing
 pub mod RootWords
 pub mod Formatted
+pub mod Chains
+pub mod SoundWords
+pub mod SoundTree
+pub mod SoundPages
+pub mod SoundForms
+pub mod SoundRoot
+pub mod SoundThrees
