@@ -36,3 +36,9 @@ pub mod SoundPages
 pub mod SoundForms
 pub mod SoundRoot
 pub mod SoundThrees
+pub mod SoundPlaces
+pub mod SoundChildren
+pub mod SoundLending
+pub mod SoundKernel
+pub mod SoundUses
+pub mod SoundAll

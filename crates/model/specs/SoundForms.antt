@@ -1,10 +1,9 @@
 -- Sentences 1 and 9: header and length, the forms of words; an absent mapping has 0 in all three table words.
 use mathlib.Core.Path.{_≡_, refl, sym, ap, _∙_, subst}
 use mathlib.Core.Logic.{_≢_}
-use mathlib.Core.Bool.{Bool, false}
 use mathlib.Core.Option.{Option, none, some}
 use mathlib.Core.List.{List, [], _∷_}
-use Prim.Native.Nat.{ℕ, zero, suc, _+_, _-_, _*_, _≤_, _<_}
+use Prim.Native.Nat.{ℕ, zero, _+_, _*_, _≤_, _<_}
 use native.Mathlib.Omega.{arith}
 use native.Mathlib.Decide.{decLt}
 use lib.ListN.{length, getD, List·getD-eq-default}
@@ -16,13 +15,13 @@ use Rattle.memory.specs.Partition
 use Rattle.memory.specs.Tree.{Virtual, Physical, Has, InTree}
 use Rattle.memory.specs.Sound.{Header, DescriptorForm, TableLink, DirectoryForm, ListForm, TableForm, Forms}
 use Rattle.model.specs.Base.{eqd}
-use Rattle.model.specs.Words.{W, addr, word, pageOf, idx, link, pte, pageOf-addr, pageOf-link, pageOf-zero, link-nz, addr-zero, Sized}
+use Rattle.model.specs.Words.{W, word, pageOf, link, pte, pageOf-link, pageOf-zero, link-nz, Sized}
 use Rattle.model.specs.Abs.{Kind, pt, s1, s2, Role, header, hand, blank, desc, root, lst, tab, Hop, Three, Abs, headP, Seen, seek, threeAt, Good, isHand, ownWord, lentWord, linkWord, descList, listList, headList}
 use Rattle.model.specs.Facts.{none-some, seek-nil}
 use Rattle.model.specs.Read.{three-is}
 use Rattle.model.specs.Inv.{fixed, Inv, head-word, pages-is}
 use Rattle.model.specs.Listing.{pageAt, list-free, list-rest}
-use Rattle.model.specs.Chains.{Above, above}
+use Rattle.model.specs.Chains.{above}
 use Rattle.model.specs.SoundWords.{Mapping, mapping-there, words-none, maps-none, kernel-fits, descriptor-word, root-word, list-word, directory-is, shadow1-is, shadow2-is, list-is, threes-is}
 use Rattle.model.specs.SoundTree.{in-tree-live}
 use Rattle.model.specs.SoundPages.{fivePage, room, physical, owned-fits, good-virtual, head-virtual, zero-virtual, five-owner, five-virtual, five-physical, pairs-are, listed-owner, listed-virtual, listed-physical}

@@ -1,7 +1,5 @@
 -- The kernel pages of a partition, as its descriptor and its list name them.
 use mathlib.Core.Path.{_≡_, refl, sym, ap, _∙_, subst}
-use mathlib.Core.Bool.{false}
-use mathlib.Core.Option.{Option}
 use mathlib.Core.List.{List, [], _∷_}
 use Prim.Native.Nat.{ℕ, zero, suc, _+_, _*_, _/_, _%_, _≤_, _<_}
 use native.Mathlib.Omega.{arith}
@@ -11,8 +9,8 @@ use Rattle.memory.specs.Words.{word}
 use Rattle.memory.specs.Partition.{pages, list, threes}
 use Rattle.memory.specs.Tree.{Virtual, Physical}
 use Rattle.memory.proofs.Widths.{words-least}
-use Rattle.model.specs.Words.{W, addr, pageOf, idx, pageOf-addr, addr-zero, cover-lt, idx-lt}
-use Rattle.model.specs.Abs.{Kind, pt, s1, s2, Role, desc, root, lst, tab, Hop, Three, Abs, headV, Good, Owner, isHand, descList}
+use Rattle.model.specs.Words.{addr, pageOf, idx, pageOf-addr, addr-zero, cover-lt, idx-lt}
+use Rattle.model.specs.Abs.{pt, s1, s2, Role, desc, root, lst, tab, Hop, Abs, headV, Good, Owner, descList}
 use Rattle.model.specs.Read.{three-is}
 use Rattle.model.specs.Sound.{owner-kernel}
 use Rattle.model.specs.Format.{kindAt}

@@ -2,7 +2,7 @@
 use mathlib.Core.Path.{_≡_, refl, sym, ap, _∙_, subst}
 use mathlib.Core.Bool.{false}
 use mathlib.Core.Option.{Option, none, some}
-use mathlib.Core.List.{List, [], _∷_}
+use mathlib.Core.List.{List, []}
 use Prim.Native.Nat.{ℕ, zero, suc, _+_, _*_, _≤_, _<_}
 use native.Mathlib.Omega.{arith}
 use native.Mathlib.Decide.{decLt}
@@ -15,7 +15,7 @@ use Rattle.memory.specs.Tree.{Has}
 use Rattle.memory.specs.Sound.{Root}
 use Rattle.model.specs.Base.{pick-yes, pick-no}
 use Rattle.model.specs.Words.{addr, addr-zero, pageOf}
-use Rattle.model.specs.Abs.{Kind, pt, s1, s2, Hop, Abs, parts, headV, Seen, isHand, cell, Up}
+use Rattle.model.specs.Abs.{pt, s1, s2, Abs, parts, headV, Seen, isHand, cell, Up}
 use Rattle.model.specs.Format.{kindNo, flat0}
 use Rattle.model.specs.Inv.{fixed, Inv, pages-is}
 use Rattle.model.specs.RootWords.{parts-nil, five-words}

@@ -1,5 +1,5 @@
 -- Sentence 3: each listed three stands at one directory index, and each index that has tables is listed once.
-use mathlib.Core.Path.{_≡_, refl, sym, ap, _∙_, subst}
+use mathlib.Core.Path.{_≡_, refl, sym, ap, _∙_}
 use mathlib.Core.Logic.{_≢_}
 use mathlib.Core.Option.{Option, none, some}
 use mathlib.Core.List.{List}
@@ -9,11 +9,11 @@ use lib.ListN.{length}
 use Rattle.walk.specs.Finite.{One}
 use Rattle.memory.specs.Geometry.{pageWords}
 use Rattle.memory.specs.Words as Mem
-use Rattle.memory.specs.Partition.{directory, shadow1, shadow2, list, threes}
+use Rattle.memory.specs.Partition.{directory, list, threes}
 use Rattle.memory.specs.Tree.{InTree}
 use Rattle.memory.specs.Sound.{Stands, Threes}
 use Rattle.model.specs.Words.{W, addr, pageOf, link, link-nz, pageOf-link}
-use Rattle.model.specs.Abs.{Kind, pt, s1, s2, Role, desc, tab, Three, Abs, threeAt, Tabs, linkWord}
+use Rattle.model.specs.Abs.{Kind, pt, s1, s2, desc, tab, Three, Abs, threeAt, Tabs, linkWord}
 use Rattle.model.specs.Read.{ThreeIs, three-is}
 use Rattle.model.specs.Format.{kindNo, kind-lt}
 use Rattle.model.specs.Inv.{Inv}

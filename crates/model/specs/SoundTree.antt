@@ -7,9 +7,9 @@ use native.Mathlib.Omega.{arith}
 use lib.ListN.{length}
 use Rattle.memory.specs.Geometry.{threesFor, mostDepth}
 use Rattle.memory.specs.Partition.{current}
-use Rattle.memory.specs.Tree.{Has, Child, InTree}
+use Rattle.memory.specs.Tree.{Child, InTree}
 use Rattle.model.specs.Words.{addr, pageOf}
-use Rattle.model.specs.Abs.{pt, s1, Role, desc, Hop, Abs, parts, Good, isHand, lentWord}
+use Rattle.model.specs.Abs.{pt, s1, desc, Hop, Abs, parts, Good, lentWord}
 use Rattle.model.specs.Facts.{length-parts, parts-of}
 use Rattle.model.specs.Read.{rootPage, entryAt, entry-is, child-view}
 use Rattle.model.specs.Walk.{hop-depth}

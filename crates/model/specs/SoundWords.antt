@@ -1,25 +1,24 @@
 -- The words of a partition's pages, in the terms of soundness, are those of the state.
 use mathlib.Core.Path.{_≡_, refl, sym, ap, _∙_, subst}
 use mathlib.Core.Logic.{_≢_}
-use mathlib.Core.Bool.{Bool, false}
+use mathlib.Core.Bool.{false}
 use mathlib.Core.Option.{Option, none, some}
-use mathlib.Core.List.{List, [], _∷_}
-use Prim.Native.Nat.{ℕ, zero, suc, _+_, _-_, _*_, _/_, _≤_, _<_}
+use mathlib.Core.List.{List, _∷_}
+use Prim.Native.Nat.{ℕ, _+_, _-_, _*_, _/_, _≤_, _<_}
 use native.Mathlib.Omega.{arith}
 use lib.ListN.{length, getD}
 use Rattle.memory.specs.Geometry
 use Rattle.memory.specs.Words as Mem
 use Rattle.memory.specs.Entry
 use Rattle.memory.specs.Partition
-use Rattle.memory.specs.Tree.{Virtual, Physical, Has}
+use Rattle.memory.specs.Tree.{Virtual, Has}
 use Rattle.memory.proofs.Geometry.{directoryIndex-lt, address-lt, page-address}
 use Rattle.model.specs.Words.{W, addr, word, pageOf, idx, off, join, pte, bit, accOf, rightsOf, pageOf-addr, pageOf-pte, accOf-pte, rightsOf-pte, pte-nz, off-lt, join-cut, twelve-lt}
-use Rattle.model.specs.Abs.{Kind, pt, s1, s2, Role, header, hand, blank, desc, root, lst, tab, Hop, Three, Abs, headV, headP, Seen, seek, threeAt, Good, Owner, WF, Cells, Encodes, isHand, lentWord, seenWord, cell, linkWord, descList, listList, roleWord}
-use Rattle.model.specs.Facts.{none-some}
-use Rattle.model.specs.Read.{rootPage, tableAt, entryAt, entry-is, entry-three, three-is, three-there, cell-none, cell-some, kernel-lt, maps-at, maps-hit, maps-three, Maps, root-page}
+use Rattle.model.specs.Abs.{Kind, pt, s1, s2, Role, desc, root, lst, Hop, Three, Abs, headV, Seen, seek, threeAt, Good, isHand, lentWord, seenWord, cell, linkWord, descList, listList, roleWord}
+use Rattle.model.specs.Read.{rootPage, tableAt, entryAt, entry-is, entry-three, three-is, cell-none, cell-some, kernel-lt, maps-at, maps-hit, maps-three, Maps, root-page}
 use Rattle.model.specs.Format.{flat0}
-use Rattle.model.specs.Inv.{fixed, Inv, pages-is}
-use Rattle.model.specs.Listing.{pageAt, list-free, list-virtual, list-physical, list-rest, at-role}
+use Rattle.model.specs.Inv.{fixed, Inv}
+use Rattle.model.specs.Listing.{list-free}
 use Rattle.model.specs.Chains.{seek-first}
 
 module _ {b : ℕ} (wide : 6 ≤ b) where
