@@ -42,3 +42,4 @@ pub mod SoundLending
 pub mod SoundKernel
 pub mod SoundUses
 pub mod SoundAll
+pub mod Unchanged

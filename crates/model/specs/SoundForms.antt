@@ -7,16 +7,14 @@ use Prim.Native.Nat.{ℕ, zero, _+_, _*_, _≤_, _<_}
 use native.Mathlib.Omega.{arith}
 use native.Mathlib.Decide.{decLt}
 use lib.ListN.{length, getD, List·getD-eq-default}
-use Rattle.memory.specs.Geometry
-use Rattle.memory.specs.Geometry.{pageWords, threesFor}
+use Rattle.memory.specs.Geometry.{pageWords, address, threesFor}
 use Rattle.memory.specs.Words as Mem
-use Rattle.memory.specs.Entry
 use Rattle.memory.specs.Partition
 use Rattle.memory.specs.Tree.{Virtual, Physical, Has, InTree}
 use Rattle.memory.specs.Sound.{Header, DescriptorForm, TableLink, DirectoryForm, ListForm, TableForm, Forms}
 use Rattle.model.specs.Base.{eqd}
 use Rattle.model.specs.Words.{W, word, pageOf, link, pte, pageOf-link, pageOf-zero, link-nz, Sized}
-use Rattle.model.specs.Abs.{Kind, pt, s1, s2, Role, header, hand, blank, desc, root, lst, tab, Hop, Three, Abs, headP, Seen, seek, threeAt, Good, isHand, ownWord, lentWord, linkWord, descList, listList, headList}
+use Rattle.model.specs.Abs.{Kind, pt, s1, s2, Role, desc, Hop, Three, Abs, headP, Seen, seek, threeAt, Good, isHand, ownWord, lentWord, linkWord, descList, listList, headList}
 use Rattle.model.specs.Facts.{none-some, seek-nil}
 use Rattle.model.specs.Read.{three-is}
 use Rattle.model.specs.Inv.{fixed, Inv, head-word, pages-is}
@@ -24,16 +22,7 @@ use Rattle.model.specs.Listing.{pageAt, list-free, list-rest}
 use Rattle.model.specs.Chains.{above}
 use Rattle.model.specs.SoundWords.{Mapping, mapping-there, words-none, maps-none, kernel-fits, descriptor-word, root-word, list-word, directory-is, shadow1-is, shadow2-is, list-is, threes-is}
 use Rattle.model.specs.SoundTree.{in-tree-live}
-use Rattle.model.specs.SoundPages.{fivePage, room, physical, owned-fits, good-virtual, head-virtual, zero-virtual, five-owner, five-virtual, five-physical, pairs-are, listed-owner, listed-virtual, listed-physical}
-
-own-le : (r : Role) → ownWord r ≢ 1 → ownWord r ≡ 0
-own-le header n = refl
-own-le hand n = refl
-own-le blank n = refl
-own-le desc n = absurd (n refl)
-own-le (root k d) n = refl
-own-le (lst d) n = refl
-own-le (tab k d i) n = refl
+use Rattle.model.specs.SoundPages.{own-small, fivePage, room, physical, owned-fits, good-virtual, head-virtual, zero-virtual, five-owner, five-virtual, five-physical, pairs-are, listed-owner, listed-virtual, listed-physical}
 
 module _ {b : ℕ} (wide : 6 ≤ b) (m : List ℕ) (i : Inv b m) where
   abbrev N : ℕ
@@ -91,7 +80,7 @@ module _ {b : ℕ} (wide : 6 ≤ b) (m : List ℕ) (i : Inv b m) where
     unfolding link pageOf
     link-form w q e k n =
         let x : pageOf b w ≡ q = ap (pageOf b) e ∙ pageOf-link wide q in
-        (ap (λ (y : ℕ). Geometry.address b y + 1) x ∙ sym e, subst (λ (y : ℕ). y < Partition.pages b m) (sym x) (omega (arith, pages-is wide m i)))
+        (ap (λ (y : ℕ). address b y + 1) x ∙ sym e, subst (λ (y : ℕ). y < Partition.pages b m) (sym x) (omega (arith, pages-is wide m i)))
 
     directory-form : (j : ℕ) → j < pageWords b → DirectoryForm b m d j
     unfolding linkWord
@@ -157,7 +146,7 @@ module _ {b : ℕ} (wide : 6 ≤ b) (m : List ℕ) (i : Inv b m) where
 
     lent-form : (r : Role) (o : Option ℕ) → lentWord b A r o ≢ 1 → Virtual b (lentWord b A r o)
     unfolding lentWord
-    lent-form r none n = rw (own-le r n) (zero-virtual wide m i)
+    lent-form r none n = let z : ownWord r ≡ 0 = omega (arith, own-small r) in rw z (zero-virtual wide m i)
     lent-form r (some c) n = head-virtual wide m i c
 
     table-form : (v : ℕ) → Has b m d v → TableForm b m d v

@@ -17,9 +17,8 @@ use Rattle.model.specs.Inv.{Inv}
 use Rattle.model.specs.Listing.{pageAt}
 use Rattle.model.specs.SoundWords.{Mapping, mapping-there, virtual-back, threes-is}
 use Rattle.model.specs.SoundTree.{IsChild, child-is, in-tree-live}
-use Rattle.model.specs.SoundPages.{fivePage, five-owner, five-virtual, pairs-are, listed-owner, listed-virtual}
+use Rattle.model.specs.SoundPages.{own-small, fivePage, five-owner, five-virtual, pairs-are, listed-owner, listed-virtual}
 use Rattle.model.specs.SoundPlaces.{Place, in-hand, in-five, in-list, place, not-lent, owned-mapping, owner-child}
-use Rattle.model.specs.SoundLending.{own-small}
 
 module _ {b : ℕ} (wide : 6 ≤ b) (m : List ℕ) (i : Inv b m) where
   abbrev A : Abs

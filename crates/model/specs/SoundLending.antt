@@ -15,11 +15,12 @@ use Rattle.memory.specs.Partition
 use Rattle.memory.specs.Tree.{Has, Child, InTree}
 use Rattle.memory.specs.Sound.{FromParent, Lent, Lending}
 use Rattle.model.specs.Words.{addr, pageOf}
-use Rattle.model.specs.Abs.{Role, header, hand, blank, desc, root, lst, tab, Hop, Abs, parts, headV, Seen, seek, Sub, GoodHop, Good, Up, ownWord, lentWord}
+use Rattle.model.specs.Abs.{desc, Hop, Abs, parts, headV, Seen, seek, Sub, GoodHop, Good, Up, lentWord}
 use Rattle.model.specs.Facts.{nil-cons, none-some, some-inj, below-is}
 use Rattle.model.specs.Inv.{Inv}
 use Rattle.model.specs.Chains.{Above, above, Below, below}
 use Rattle.model.specs.SoundWords.{Mapping, mapping-there, mapping-at, has-at, virtual-back}
+use Rattle.model.specs.SoundPages.{own-small}
 use Rattle.model.specs.SoundPlaces.{first-part}
 use Rattle.model.specs.SoundTree.{IsChild, child-is, child-at, child-parts, in-tree-live}
 
@@ -39,15 +40,6 @@ sub-and r s n k h =
 
 sub-holds : (x y r s : ℕ) → Entry.rights x ≡ r → Entry.rights y ≡ s → r < 8 → s < 8 → Sub r s → Entry.holds (Entry.rights x) y ≡ true
 sub-holds x y r s e f n k h = eq-eqb (bitAnd (Entry.rights x) (Entry.rights y)) (Entry.rights x) (ap₂ bitAnd e f ∙ sub-and r s n k h ∙ sym e)
-
-pub own-small : (r : Role) → ownWord r ≤ 1
-own-small header = omega arith
-own-small hand = omega arith
-own-small blank = omega arith
-own-small desc = omega arith
-own-small (root k d) = omega arith
-own-small (lst d) = omega arith
-own-small (tab k d x) = omega arith
 
 module _ {b : ℕ} (wide : 6 ≤ b) (m : List ℕ) (i : Inv b m) where
   abbrev A : Abs

@@ -8,7 +8,6 @@ use native.Mathlib.Omega.{arith}
 use native.Mathlib.Decide.{decLt}
 use Rattle.memory.specs.Geometry
 use Rattle.memory.specs.Words as Mem
-use Rattle.memory.specs.Entry
 use Rattle.memory.specs.Partition
 use Rattle.memory.specs.Format.{formatWord}
 use Rattle.memory.specs.Tree.{Has}
