@@ -1,7 +1,12 @@
--- Memory with the invariant is sound.
+-- Memory with the invariant is sound, and the test of soundness passes.
+use mathlib.Core.Path.{_≡_, ap}
+use mathlib.Core.Bool.{false, not}
 use mathlib.Core.List.{List}
 use Prim.Native.Nat.{ℕ, _≤_}
 use Rattle.memory.specs.Sound.{Sound}
+use Rattle.soundness.proofs.Whole.{sound?}
+use Rattle.rules.specs.Conditions.{damaged}
+use Rattle.model.specs.Words.{W, sixty-one}
 use Rattle.model.specs.Inv.{Inv}
 use Rattle.model.specs.SoundTree.{sound-depth, sound-current}
 use Rattle.model.specs.SoundForms.{sound-header, sound-forms, sound-absent}
@@ -26,3 +31,7 @@ inv-sound wide m i = record {
   uses = sound-uses wide m i;
   absent = sound-absent wide m i;
 }
+
+pub inv-whole : {b : ℕ} (wide : 6 ≤ b) (m : List ℕ) → Inv b m → damaged b m ≡ false
+unfolding W
+inv-whole {b} wide m i = ap not (sound? b m (sixty-one wide) .1 (inv-sound wide m i))
