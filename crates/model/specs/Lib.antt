@@ -24,8 +24,6 @@ pub mod Collect
 pub mod CollWords
 pub mod Format
 pub mod Inv
-pub mod Move
-pub mod Keep
 pub mod Listing
 pub mod RootWords
 pub mod Formatted
@@ -43,3 +41,5 @@ pub mod SoundKernel
 pub mod SoundUses
 pub mod SoundAll
 pub mod Unchanged
+pub mod Move
+pub mod Keep
