@@ -26,3 +26,8 @@ pub mod Format
 pub mod Inv
 pub mod Move
 pub mod Keep
+pub mod ChainChecks
+pub mod ListPage
+pub mod ThreePages
+pub mod ChildPage
+pub mod Prepare
