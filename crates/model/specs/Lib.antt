@@ -31,3 +31,7 @@ pub mod ListPage
 pub mod ThreePages
 pub mod ChildPage
 pub mod Prepare
+pub mod ThreePlace
+pub mod DropThree
+pub mod CollectEffect
+pub mod CollectThree
