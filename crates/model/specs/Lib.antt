@@ -43,3 +43,12 @@ pub mod SoundAll
 pub mod Unchanged
 pub mod Move
 pub mod Keep
+pub mod ChainChecks
+pub mod ListPage
+pub mod ThreePages
+pub mod ChildPage
+pub mod Prepare
+pub mod ThreePlace
+pub mod DropThree
+pub mod CollectEffect
+pub mod CollectThree
