@@ -52,3 +52,7 @@ pub mod ThreePlace
 pub mod DropThree
 pub mod CollectEffect
 pub mod CollectThree
+pub mod Checks
+pub mod KeepMove
+pub mod KeepAdd
+pub mod KeepCreate
