@@ -102,9 +102,9 @@ module _ {b : ℕ} (wide : 6 ≤ b) where
     lt : (q : ℕ) (r : Role) → A .role q ≡ r → isHand r ≡ false → q < N
     lt q r e n = kernel-lt wide N fl A wf q (ap isHand e ∙ n)
 
-    -- three words of the roots, then the list
+    -- three words of the roots, then the list's six and its count
     unfoldable pub prepM : List ℕ → List ℕ
-    prepM m = putL b (put b (put b (put b (put b m (R pt) i (link b (P pt))) (R s1) i (link b (P s1))) (R s2) i (link b (P s2))) L 0 (1 + 6 * (1 + n))) L (1 + 6 * n) (six b (A .chain) P)
+    prepM m = put b (putL b (put b (put b (put b m (R pt) i (link b (P pt))) (R s1) i (link b (P s1))) (R s2) i (link b (P s2))) L (1 + 6 * n) (six b (A .chain) P)) L 0 (1 + 6 * n + 6)
 
     six-length : length (six b (A .chain) P) ≡ 6
     unfolding six
@@ -126,7 +126,7 @@ module _ {b : ℕ} (wide : 6 ≤ b) where
     m3 m = put b (put b (put b m (R pt) i (link b (P pt))) (R s1) i (link b (P s1))) (R s2) i (link b (P s2))
 
     abbrev m4 : List ℕ → List ℕ
-    m4 m = put b (m3 m) L 0 (1 + 6 * (1 + n))
+    m4 m = putL b (m3 m) L (1 + 6 * n) (six b (A .chain) P)
 
     m3-off : (m : List ℕ) (q j : ℕ) → j < W b → ((k : Kind) → ¬ ((q ≡ R k) × (j ≡ i))) → word b (m3 m) q j ≡ word b m q j
     m3-off m q j β nr =
@@ -135,12 +135,15 @@ module _ {b : ℕ} (wide : 6 ≤ b) where
     m3-sized : (m : List ℕ) → Sized b N m → Sized b N (m3 m)
     m3-sized m s = put-sized wide N _ (R s2) i _ (put-sized wide N _ (R s1) i _ (put-sized wide N m (R pt) i _ s))
 
+    m4-sized : (m : List ℕ) → Sized b N m → Sized b N (m4 m)
+    m4-sized m s = putL-sized wide N (m3 m) L (1 + 6 * n) (six b (A .chain) P) (m3-sized m s)
+
     zero-lt : 0 < W b
     zero-lt = twelve-lt wide 0 (omega arith)
 
     off-list : (m : List ℕ) (q j : ℕ) → j < W b → q ≢ L → word b (prepM m) q j ≡ word b (m3 m) q j
     unfolding prepM
-    off-list m q j β nl = putL-other wide (m4 m) L (1 + 6 * n) (six b (A .chain) P) q j room β nl ∙ word-put-other wide (m3 m) L 0 _ q j zero-lt β (λ y. nl (y .0))
+    off-list m q j β nl = word-put-other wide (m4 m) L 0 _ q j zero-lt β (λ y. nl (y .0)) ∙ putL-other wide (m3 m) L (1 + 6 * n) (six b (A .chain) P) q j room β nl
 
     on-root : (m : List ℕ) (k : Kind) → Sized b N m → word b (m3 m) (R k) i ≡ link b (P k)
     on-root m pt s =
@@ -155,19 +158,19 @@ module _ {b : ℕ} (wide : 6 ≤ b) where
 
     on-list : (m : List ℕ) (j : ℕ) → Sized b N m → j < W b → word b m L j ≡ getD ((1 + 6 * n) ∷ xs) j 0 → word b (prepM m) L j ≡ getD ((1 + 6 * (1 + n)) ∷ (xs ++ six b (A .chain) P)) j 0
     unfolding prepM
-    on-list m zero s β e = putL-before wide (m4 m) L (1 + 6 * n) (six b (A .chain) P) 0 (omega arith) ∙ word-put-same wide N (m3 m) L 0 _ (m3-sized m s) (lt L (lst c) L-role refl) zero-lt
-    on-list m (suc j) s β e = go (decLt j (6 * n))
+    on-list m zero s β e = word-put-same wide N (m4 m) L 0 _ (m4-sized m s) (lt L (lst c) L-role refl) zero-lt ∙ omega arith
+    on-list m (suc j) s β e = word-put-other wide (m4 m) L 0 _ L (suc j) zero-lt β (λ y. omega (arith, y .1)) ∙ go (decLt j (6 * n))
       where
-        old : word b (m4 m) L (suc j) ≡ getD xs j 0
-        old = word-put-other wide (m3 m) L 0 _ L (suc j) zero-lt β (λ y. omega (arith, y .1)) ∙ m3-off m L (suc j) β (λ k y. L-R k (y .0)) ∙ e
+        old : word b (m3 m) L (suc j) ≡ getD xs j 0
+        old = m3-off m L (suc j) β (λ k y. L-R k (y .0)) ∙ e
 
-        go : Dec (j < 6 * n) → word b (prepM m) L (suc j) ≡ getD (xs ++ six b (A .chain) P) j 0
-        go (yes l) = putL-before wide (m4 m) L (1 + 6 * n) (six b (A .chain) P) (suc j) (omega arith) ∙ old ∙ sym (List·getD-append xs (six b (A .chain) P) 0 j (omega (arith, pairs-length wide (A .chain) (A .threes c))))
+        go : Dec (j < 6 * n) → word b (m4 m) L (suc j) ≡ getD (xs ++ six b (A .chain) P) j 0
+        go (yes l) = putL-before wide (m3 m) L (1 + 6 * n) (six b (A .chain) P) (suc j) (omega arith) ∙ old ∙ sym (List·getD-append xs (six b (A .chain) P) 0 j (omega (arith, pairs-length wide (A .chain) (A .threes c))))
         go (no l) =
             let h : length xs + (j - 6 * n) ≡ j = omega (arith, pairs-length wide (A .chain) (A .threes c)) in
             let z : getD xs j 0 ≡ 0 = List·getD-eq-default xs 0 {n = j} (omega (arith, pairs-length wide (A .chain) (A .threes c))) in
             let w : getD (xs ++ six b (A .chain) P) j 0 ≡ getD (six b (A .chain) P) (j - 6 * n) 0 = subst (λ (t : ℕ). getD (xs ++ six b (A .chain) P) t 0 ≡ getD (six b (A .chain) P) (j - 6 * n) 0) h (getD-append-add xs (six b (A .chain) P) (j - 6 * n) 0) in
-            putL-at wide N (m4 m) L (1 + 6 * n) (six b (A .chain) P) (j - 6 * n) (suc j) (put-sized wide N (m3 m) L 0 _ (m3-sized m s)) (lt L (lst c) L-role refl) (omega arith) β
+            putL-at wide N (m3 m) L (1 + 6 * n) (six b (A .chain) P) (j - 6 * n) (suc j) (m3-sized m s) (lt L (lst c) L-role refl) (omega arith) β
             ∙ ap (getD (six b (A .chain) P) (j - 6 * n)) (old ∙ z) ∙ sym w
 
     threes-other : (d : ℕ) → d ≢ c → B .threes d ≡ A .threes d
@@ -234,7 +237,7 @@ module _ {b : ℕ} (wide : 6 ≤ b) where
 
     prep-sized : (m : List ℕ) → Sized b N m → Sized b N (prepM m)
     unfolding prepM
-    prep-sized m s = putL-sized wide N (m4 m) L (1 + 6 * n) (six b (A .chain) P) (put-sized wide N (m3 m) L 0 _ (m3-sized m s))
+    prep-sized m s = put-sized wide N (m4 m) L 0 _ (m4-sized m s)
 
     pub prep-words : (m : List ℕ) → Encodes b N f m A → Encodes b N f (prepM m) B
     unfolding roleWord
