@@ -11,14 +11,14 @@ use lib.ListN.{length, getD, take, drop, length-take, length-drop}
 use lib.Seq.{ext-getD, getD-take, getD-drop}
 use Rattle.memory.specs.Geometry.{pageWords}
 use Rattle.memory.specs.Words as Mem
-use Rattle.memory.specs.Partition.{list}
 use Rattle.rules.specs.Moves.{returnPage, returnAll}
 use Rattle.rules.specs.Effects.{evens, listed, kernelAddresses}
 use Rattle.model.specs.Base.{eqd, upd, upd-same, upd-other}
-use Rattle.model.specs.Words.{W, addr, word, pageOf, pageOf-addr, Sized, twelve-lt, sixty-one}
+use Rattle.model.specs.Words.{W, addr, word, Sized, twelve-lt, sixty-one}
 use Rattle.model.specs.Abs.{pt, s1, s2, Role, header, hand, blank, desc, root, lst, tab, Hop, Three, Abs, headV, seek, Owner, WF, Cells, Encodes, EncodesC, isHand, ownWord, lentWord, cell, roleWord, descList, listList, listPairs}
 use Rattle.model.specs.Facts.{seek-here}
 use Rattle.model.specs.Read.{kernel-lt, cell-s1}
+use Rattle.model.specs.ListPage.{list-lt, list-page, list-word, free-is}
 use Rattle.model.specs.Delete.{after-parts, cut-none, delA, DelPre, no-self}
 use Rattle.model.specs.DelWords.{choose, Back, back, mix, mix-some}
 use Rattle.model.specs.DelSteps.{at-A, return-page, back-lent}
@@ -70,17 +70,6 @@ module _ {b : ℕ} (wide : 6 ≤ b) (N : ℕ) (fl : ℕ → Option ℕ) (f m : L
   D-word j h = let n : isHand (A .role D) ≡ false = ap isHand l in
       en .says D j (kernel-lt wide N fl A wf D n) h n ∙ ap (λ (z : Role). roleWord b f A (cell b A) z D j) l
 
-  L-word : (j : ℕ) → j < W b → word b m (A .lstp D) j ≡ getD (listList b (A .chain) (A .threes D)) j 0
-  unfolding roleWord
-  L-word j h =
-      let r : A .role (A .lstp D) ≡ lst D = wf .lst-role D l in
-      let n : isHand (A .role (A .lstp D)) ≡ false = ap isHand r in
-      en .says (A .lstp D) j (kernel-lt wide N fl A wf (A .lstp D) n) h n ∙ ap (λ (z : Role). roleWord b f A (cell b A) z (A .lstp D) j) r
-
-  list-is : list b m D ≡ A .lstp D
-  unfolding descList word pageOf
-  list-is = ap (pageOf b) (D-word 9 (twelve-lt wide 9 (omega arith))) ∙ pageOf-addr wide (A .lstp D)
-
   five-is : evens (take 10 (Mem.page b m D)) ≡ places b (A .chain) (D ∷ A .rootp pt D ∷ A .rootp s1 D ∷ A .rootp s2 D ∷ A .lstp D ∷ [])
   unfolding descList
   five-is = ap evens (part-is wide N m D 0 (take 10 (descList b A D)) (en .sized) (kernel-lt wide N fl A wf D (ap isHand l)) (twelve-lt wide 9 (omega arith)) says)
@@ -90,7 +79,7 @@ module _ {b : ℕ} (wide : 6 ≤ b) (N : ℕ) (fl : ℕ → Option ℕ) (f m : L
 
   listed-is : listed b m D ≡ listPairs b (A .chain) (A .threes D)
   unfolding listList word
-  listed-is = rw (list-is, count) (part-is wide N m (A .lstp D) 1 ps (en .sized) (kernel-lt wide N fl A wf (A .lstp D) (ap isHand (wf .lst-role D l))) fits says)
+  listed-is = rw (list-page wide N fl f m A wf en D l, count) (part-is wide N m (A .lstp D) 1 ps (en .sized) (list-lt wide N fl f m A wf en D l) fits says)
     where
       ps : List ℕ
       ps = listPairs b (A .chain) (A .threes D)
@@ -99,10 +88,10 @@ module _ {b : ℕ} (wide : 6 ≤ b) (N : ℕ) (fl : ℕ → Option ℕ) (f m : L
       fits = omega (arith, pairs-length b (A .chain) (A .threes D), wf .ten D l, sixty-one wide)
 
       count : word b m (A .lstp D) 0 - 1 ≡ length ps
-      count = omega (arith, L-word 0 (twelve-lt wide 0 (omega arith)), pairs-length b (A .chain) (A .threes D))
+      count = omega (arith, free-is wide N fl f m A wf en D l, pairs-length b (A .chain) (A .threes D))
 
       says : (j : ℕ) → j < length ps → word b m (A .lstp D) (1 + j) ≡ getD ps j 0
-      says j h = let e : 1 + j ≡ suc j = omega arith in ap (word b m (A .lstp D)) e ∙ L-word (suc j) (omega (arith, fits))
+      says j h = let e : 1 + j ≡ suc j = omega arith in ap (word b m (A .lstp D)) e ∙ list-word wide N fl f m A wf en D l (suc j) (omega (arith, fits))
 
   pub kernel-is : kernelAddresses b m D ≡ places b (A .chain) kernelPages
   kernel-is = ap₂ (λ (xs ys : List ℕ). xs ++ ys) five-is (ap evens listed-is ∙ evens-pairs b (A .chain) (A .threes D))
