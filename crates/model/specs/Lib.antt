@@ -59,3 +59,4 @@ pub mod KeepMove
 pub mod KeepAdd
 pub mod KeepCreate
 pub mod KeepDelete
+pub mod Step
