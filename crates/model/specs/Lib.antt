@@ -33,5 +33,10 @@ pub mod ChildPage
 pub mod Prepare
 pub mod ThreePlace
 pub mod DropThree
+pub mod SixWords
 pub mod CollectEffect
+pub mod CollectPlace
 pub mod CollectThree
+pub mod SameChain
+pub mod Relink
+pub mod PrepareCollect

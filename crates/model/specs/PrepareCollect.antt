@@ -1,0 +1,229 @@
+-- prepare, and then collect: the three stands in the list, collect passes, and the chain is the same.
+use mathlib.Core.Path.{_≡_, refl, sym, ap, _∙_, subst}
+use mathlib.Core.Logic.{_≢_}
+use mathlib.Core.Bool.{Bool, false, not, _||_}
+use mathlib.Core.Option.{Option}
+use mathlib.Core.List.{List, [], _∷_, _++_}
+use Prim.Native.Nat.{ℕ, suc, _+_, _*_, _≤_, _<_}
+use native.Mathlib.Omega.{arith}
+use borrow.Author.Tests.{eq-eqb, ne-eqb}
+use lib.Dec.{eqb}
+use lib.ListN.{length, getD, length-append, List·getD-eq-default}
+use native.Mathlib.Decide.{decLt}
+use Rattle.walk.specs.Finite.{any}
+use Rattle.memory.specs.Geometry
+use Rattle.memory.specs.Words as Mem
+use Rattle.memory.specs.Partition
+use Rattle.memory.specs.Sound.{Sound}
+use Rattle.soundness.proofs.Whole.{sound?}
+use Rattle.rules.specs.Row.{ok, pass}
+use Rattle.rules.specs.Call.{prepare, collect}
+use Rattle.rules.specs.Conditions
+use Rattle.rules.specs.Refusals.{refusals, refusal}
+use Rattle.rules.specs.Effects.{effect}
+use Rattle.rules.specs.Calls.{answer, after}
+use Rattle.rules.proofs.Rows.{First, none, on, first-is}
+use Rattle.model.specs.Base.{upd-same}
+use Rattle.model.specs.Words.{W, addr, word, link, link-nz, idx, pageOf, pageOf-link, join, idx-join, sixty-one}
+use Rattle.model.specs.Abs.{Kind, pt, s1, s2, Role, desc, tab, isHand, roleWord, Abs, WF, Encodes, cell, linkWord}
+use Rattle.model.specs.Facts.{differ}
+use Rattle.model.specs.Read
+use Rattle.model.specs.Read.{rootPage, tableAt, table-word}
+use Rattle.model.specs.Fill as Fill
+use Rattle.model.specs.Prep.{newThree, PrepView, is-P, is-old}
+use Rattle.model.specs.Format.{flat0}
+use Rattle.model.specs.Inv.{fixed, Inv, live, cur-is}
+use Rattle.model.specs.ChainChecks.{chained, PrepareChecks, prepare-checks}
+use Rattle.model.specs.ListPage.{threes-is}
+use Rattle.model.specs.SixWords as Six
+use Rattle.model.specs.SixWords.{addressAt, pageAt, address-word}
+use Rattle.model.specs.CollectEffect.{page-word, page-size}
+use Rattle.model.specs.ChildPage.{first-mapping, first-mark}
+use Rattle.model.specs.Prepare.{three-there, nothing-there, d, x, chd, P, hP, at-is, preparedA, prepared, prepared-view, prepared-inv, keep-prepare}
+use Rattle.model.specs.SameChain.{Chain, ThreeAt, SameChain}
+use Rattle.model.specs.Relink.{collect-chain}
+
+-- a list of zeros has no other word
+none-in : (ws : List ℕ) → ((j : ℕ) → getD ws j 0 ≡ 0) → any (λ w. not (eqb w 0)) ws ≡ false
+none-in [] h = refl
+none-in (w ∷ ws) h = ap (λ (u : Bool). not u || any (λ w. not (eqb w 0)) ws) (eq-eqb w 0 (h 0)) ∙ none-in ws (λ j. h (suc j))
+
+module _ {b : ℕ} (wide : 6 ≤ b) (m : List ℕ) (i : Inv b m) (c t p : ℕ) (ck : PrepareChecks b m c t p) where
+  abbrev N : ℕ
+  N = i .N
+
+  abbrev fl : ℕ → Option ℕ
+  fl = flat0 (i .N) (Geometry.threesFor b (i .N))
+
+  abbrev f : List ℕ
+  f = fixed b (i .N)
+
+  abbrev A : Abs
+  A = i .state
+
+  abbrev m′ : List ℕ
+  m′ = effect b m (prepare c t p)
+
+  abbrev B : Abs
+  B = preparedA wide m i c t p ck
+
+  abbrev k : ℕ
+  k = d wide m i c t p ck
+
+  abbrev y : ℕ
+  y = x wide m i c t p ck
+
+  abbrev Q : Kind → ℕ
+  Q = P wide m i c t p ck
+
+  wB : WF b N fl B
+  wB = prepared wide m i c t p ck .0
+
+  enB : Encodes b N f m′ B
+  enB = prepared wide m i c t p ck .1
+
+  abbrev n : ℕ
+  n = length (A .threes k)
+
+  threes-are : B .threes k ≡ A .threes k ++ newThree y Q ∷ []
+  threes-are = upd-same (A .threes) k _
+
+  kid-live : B .role k ≡ desc
+  kid-live = go (prepared-view wide m i c t p ck k)
+    where
+      go : PrepView A k y Q k (B .role k) → B .role k ≡ desc
+      go (is-P κ e r) = differ (sym (hP wide m i c t p ck κ .in-hand) ∙ sym (ap (A .role) e) ∙ chd wide m i c t p ck .live) (omega arith)
+      go (is-old u r) = r ∙ chd wide m i c t p ck .live
+
+  -- ---- the three in the list
+
+  root-word : (κ : Kind) → word b m′ (rootPage b m′ κ k) y ≡ link b (Q κ)
+  unfolding linkWord tableAt word idx
+  root-word κ =
+      table-word wide N fl B wB f m′ (cell b B) enB κ k (pageOf b t) kid-live (ck .t-at .fits)
+      ∙ ap (linkWord b κ) (three-there wide m i c t p ck)
+
+  page-at : (κ : Kind) → word b m′ (Partition.list b m′ k) (pageAt κ + 6 * n) ≡ addr b (Q κ)
+  page-at = Six.page-word wide N fl f m′ B wB enB k kid-live (A .threes k) (newThree y Q) [] threes-are
+
+  stands : (κ : Kind) → word b m′ (rootPage b m′ κ k) y ≡ word b m′ (Partition.list b m′ k) (pageAt κ + 6 * n) + 1
+  unfolding link addr
+  stands κ = omega (arith, root-word κ, page-at κ)
+
+  address-at : (κ : Kind) → word b m′ (Partition.list b m′ k) (addressAt κ + 6 * n) ≡ chained b m p κ
+  address-at κ = address-word wide N fl f m′ B wB enB k kid-live (A .threes k) (newThree y Q) [] threes-are κ ∙ at-is wide m i c t p ck κ
+
+  listed : ThreeAt b m′ k (Geometry.directoryIndex b (Geometry.pageOf b t)) p (Conditions.link b m p) (Conditions.link b m (Conditions.link b m p))
+  unfolding word rootPage idx pageOf
+  listed = record {
+    place = n;
+    inside = omega (arith, threes-is wide N fl f m′ B wB enB k kid-live, ap length threes-are, length-append (A .threes k) (newThree y Q ∷ []));
+    stands = (stands pt, stands s1, stands s2);
+    first = address-at pt;
+    second = address-at s1;
+    third = address-at s2;
+  }
+
+  -- ---- collect passes
+
+  caller-same : Partition.current b m′ ≡ Partition.current b m
+  unfolding prepared-inv
+  caller-same = cur-is wide m′ (prepared-inv wide m i c t p ck) ∙ sym (cur-is wide m i)
+
+  caller-live : B .role (Partition.current b m) ≡ desc
+  unfolding prepared-inv
+  caller-live = ap (B .role) (sym caller-same) ∙ live wide m′ (prepared-inv wide m i c t p ck)
+
+  first′ : Fill.First B (Partition.current b m) k
+  first′ = let r = chd wide m i c t p ck .first in record { hop = r .hop; rest = r .rest; is = r .is; part = r .part }
+
+  kid-at : c ≡ addr b (first′ .hop .vp)
+  unfolding first′
+  kid-at = sym (ck .c-at .is) ∙ ap (addr b) (sym (chd wide m i c t p ck .at))
+
+  kid-same : Conditions.child b m′ c ≡ k
+  kid-same =
+      ap (λ (z : ℕ). Geometry.pageOf b (Partition.mapping b m′ z c)) caller-same
+      ∙ ap (λ (z : ℕ). Geometry.pageOf b (Partition.mapping b m′ (Partition.current b m) z)) kid-at
+      ∙ first-mapping wide N fl f m′ B wB enB (Partition.current b m) caller-live k first′
+
+  kid-marked : Partition.lent b m′ (Partition.current b m′) c ≡ 1
+  kid-marked =
+      ap (λ (z : ℕ). Partition.lent b m′ z c) caller-same
+      ∙ ap (λ (z : ℕ). Partition.lent b m′ (Partition.current b m) z) kid-at
+      ∙ first-mark wide N fl f m′ B wB enB (Partition.current b m) caller-live k first′ kid-live
+
+  table-there : Partition.tableFor b m′ k t ≢ 0
+  unfolding word rootPage idx pageOf
+  table-there e = link-nz wide (Q pt) (sym (root-word pt) ∙ e)
+
+  table-role : B .role (Q pt) ≡ tab pt k y
+  table-role = Read.three-is wide (B .role) k y (B .threes k) (newThree y Q) (wB .tabs k kid-live) (three-there wide m i c t p ck) .pages pt
+
+  table-lt : Q pt < N
+  table-lt = Read.kernel-lt wide N fl B wB (Q pt) (ap isHand table-role)
+
+  table-zero : (j : ℕ) → j < W b → word b m′ (Q pt) j ≡ 0
+  unfolding roleWord
+  table-zero j β =
+      enB .says (Q pt) j table-lt β (ap isHand table-role)
+      ∙ ap (λ (z : Role). roleWord b f B (cell b B) z (Q pt) j) table-role
+      ∙ Read.cell-none wide B pt k (join b y j) (nothing-there wide m i c t p ck (join b y j) (idx-join wide y j β))
+
+  table-page : Geometry.pageOf b (Partition.tableFor b m′ k t) ≡ Q pt
+  unfolding word rootPage idx pageOf
+  table-page = ap (pageOf b) (root-word pt) ∙ pageOf-link wide (Q pt)
+
+  table-empty : Conditions.anyMapping b m′ k t ≡ false
+  table-empty = ap (λ (z : ℕ). any (λ w. not (eqb w 0)) (Mem.page b m′ z)) table-page ∙ none-in (Mem.page b m′ (Q pt)) (λ j. go j (decLt j (W b)))
+    where
+      go : (j : ℕ) → Dec (j < W b) → getD (Mem.page b m′ (Q pt)) j 0 ≡ 0
+      go j (yes l) = page-word b m′ (Q pt) j l ∙ table-zero j l
+      go j (no l) = List·getD-eq-default (Mem.page b m′ (Q pt)) 0 {n = j} (omega (arith, page-size b N m′ (Q pt) (enB .sized) table-lt))
+
+  passes : Conditions.damaged b m′ ≡ false → refusal b m′ (collect c t) ≡ 0
+  unfolding refusals
+  passes sound =
+      first-is
+      (on sound
+      (on good
+      (on (ap not (eq-eqb _ _ kid-marked))
+      (on (ne-eqb _ _ (subst (λ (z : ℕ). Partition.tableFor b m′ z t ≢ 0) (sym kid-same) table-there))
+      (on (subst (λ (z : ℕ). Conditions.anyMapping b m′ z t ≡ false) (sym kid-same) table-empty) none)))))
+    where
+      good : any (Conditions.badPage b) (c ∷ t ∷ []) ≡ false
+      good = ap (λ (u : Bool). u || (Conditions.badPage b t || false)) (ck .c-good) ∙ ap (λ (u : Bool). u || false) (ck .t-good)
+
+  chain-before : Chain b m p (Conditions.link b m p) (Conditions.link b m (Conditions.link b m p))
+  chain-before = record { first = refl; second = refl; third = ck .end }
+
+  same-after : Conditions.damaged b m′ ≡ false → refusal b m (prepare c t p) ≡ 0 → SameChain b m c t p
+  unfolding after pass
+  same-after sound e =
+      let a : after b m (prepare c t p) ≡ m′ = ap (λ (z : ℕ). pass z m′ m) e in
+      let q = passes sound in
+      let r = collect-chain wide m′ (prepared-inv wide m i c t p ck) c t _ _ _ q (subst (λ (z : ℕ). ThreeAt b m′ z (Geometry.directoryIndex b (Geometry.pageOf b t)) p (Conditions.link b m p) (Conditions.link b m (Conditions.link b m p))) (sym kid-same) listed) in
+      record {
+        passes = subst (λ (z : List ℕ). refusal b z (collect c t) ≡ 0) (sym a) q;
+        answered = subst (λ (z : List ℕ). answer b z (collect c t) ≡ ok p) (sym a) (r .0);
+        before = chain-before;
+        afterwards = subst (λ (z : List ℕ). Chain b (after b z (collect c t)) p (Conditions.link b m p) (Conditions.link b m (Conditions.link b m p))) (sym a) (r .1);
+      }
+
+module _ {b : ℕ} (wide : 6 ≤ b) (m : List ℕ) (i : Inv b m) where
+  -- after a passing prepare the child's list has the chain's addresses
+  pub prepare-three : (c t p : ℕ) → refusal b m (prepare c t p) ≡ 0
+      → ThreeAt b (after b m (prepare c t p)) (Conditions.child b m c) (Geometry.directoryIndex b (Geometry.pageOf b t)) p (Conditions.link b m p) (Conditions.link b m (Conditions.link b m p))
+  unfolding after pass
+  prepare-three c t p e =
+      subst (λ (z : ℕ). ThreeAt b (pass z (effect b m (prepare c t p)) m) (Conditions.child b m c) (Geometry.directoryIndex b (Geometry.pageOf b t)) p (Conditions.link b m p) (Conditions.link b m (Conditions.link b m p)))
+      (sym e) (listed wide m i c t p (prepare-checks b m c t p e))
+
+-- collect passes where the memory that prepare leaves is sound: given that the invariant makes it so
+module _ {b : ℕ} (wide : 6 ≤ b) (sound : (m : List ℕ) → Inv b m → Sound b m) (m : List ℕ) (i : Inv b m) where
+  undamaged : (m′ : List ℕ) → Inv b m′ → Conditions.damaged b m′ ≡ false
+  unfolding W
+  undamaged m′ j = ap not (sound? b m′ (sixty-one wide) .1 (sound m′ j))
+
+  pub same-chain : (c t p : ℕ) → refusal b m (prepare c t p) ≡ 0 → SameChain b m c t p
+  same-chain c t p e = same-after wide m i c t p (prepare-checks b m c t p e) (undamaged _ (keep-prepare wide m i c t p e)) e
