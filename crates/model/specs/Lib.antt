@@ -38,5 +38,6 @@ pub mod CollectEffect
 pub mod CollectPlace
 pub mod CollectThree
 pub mod SameChain
+pub mod ThreeHeld
 pub mod Relink
 pub mod PrepareCollect

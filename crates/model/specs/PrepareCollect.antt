@@ -4,11 +4,11 @@ use mathlib.Core.Logic.{_≢_}
 use mathlib.Core.Bool.{Bool, false, not, _||_}
 use mathlib.Core.Option.{Option}
 use mathlib.Core.List.{List, [], _∷_, _++_}
-use Prim.Native.Nat.{ℕ, suc, _+_, _*_, _≤_, _<_}
+use Prim.Native.Nat.{ℕ, suc, _≤_, _<_}
 use native.Mathlib.Omega.{arith}
 use borrow.Author.Tests.{eq-eqb, ne-eqb}
 use lib.Dec.{eqb}
-use lib.ListN.{length, getD, length-append, List·getD-eq-default}
+use lib.ListN.{length, getD, List·getD-eq-default}
 use native.Mathlib.Decide.{decLt}
 use Rattle.walk.specs.Finite.{any}
 use Rattle.memory.specs.Geometry
@@ -25,18 +25,17 @@ use Rattle.rules.specs.Calls.{answer, after}
 use Rattle.rules.proofs.Rows.{First, none, on, first-is}
 use Rattle.model.specs.Base.{upd-same}
 use Rattle.model.specs.Words.{W, addr, word, link, link-nz, idx, pageOf, pageOf-link, join, idx-join, sixty-one}
-use Rattle.model.specs.Abs.{Kind, pt, s1, s2, Role, desc, tab, isHand, roleWord, Abs, WF, Encodes, cell, linkWord}
+use Rattle.model.specs.Abs.{Kind, pt, s1, s2, Role, desc, tab, isHand, headV, roleWord, Abs, WF, Encodes, cell, linkWord}
 use Rattle.model.specs.Facts.{differ}
 use Rattle.model.specs.Read
-use Rattle.model.specs.Read.{rootPage, tableAt, table-word}
+use Rattle.model.specs.Read.{table-word}
 use Rattle.model.specs.Fill as Fill
 use Rattle.model.specs.Prep.{newThree, PrepView, is-P, is-old}
 use Rattle.model.specs.Format.{flat0}
 use Rattle.model.specs.Inv.{fixed, Inv, live, cur-is}
-use Rattle.model.specs.ChainChecks.{chained, PrepareChecks, prepare-checks}
-use Rattle.model.specs.ListPage.{threes-is}
-use Rattle.model.specs.SixWords as Six
-use Rattle.model.specs.SixWords.{addressAt, pageAt, address-word}
+use Rattle.model.specs.ChainChecks.{PrepareChecks, prepare-checks}
+use Rattle.model.specs.Names.{tableFor-is}
+use Rattle.model.specs.ThreeHeld.{Holds, shown}
 use Rattle.model.specs.CollectEffect.{page-word, page-size}
 use Rattle.model.specs.ChildPage.{first-mapping, first-mark}
 use Rattle.model.specs.Prepare.{three-there, nothing-there, d, x, chd, P, hP, at-is, preparedA, prepared, prepared-view, prepared-inv, keep-prepare}
@@ -97,32 +96,17 @@ module _ {b : ℕ} (wide : 6 ≤ b) (m : List ℕ) (i : Inv b m) (c t p : ℕ) (
 
   -- ---- the three in the list
 
-  root-word : (κ : Kind) → word b m′ (rootPage b m′ κ k) y ≡ link b (Q κ)
-  unfolding linkWord tableAt word idx
-  root-word κ =
-      table-word wide N fl B wB f m′ (cell b B) enB κ k (pageOf b t) kid-live (ck .t-at .fits)
-      ∙ ap (linkWord b κ) (three-there wide m i c t p ck)
+  abbrev v : Kind → ℕ
+  v κ = headV (A .chain (Q κ))
 
-  page-at : (κ : Kind) → word b m′ (Partition.list b m′ k) (pageAt κ + 6 * n) ≡ addr b (Q κ)
-  page-at = Six.page-word wide N fl f m′ B wB enB k kid-live (A .threes k) (newThree y Q) [] threes-are
-
-  stands : (κ : Kind) → word b m′ (rootPage b m′ κ k) y ≡ word b m′ (Partition.list b m′ k) (pageAt κ + 6 * n) + 1
-  unfolding link addr
-  stands κ = omega (arith, root-word κ, page-at κ)
-
-  address-at : (κ : Kind) → word b m′ (Partition.list b m′ k) (addressAt κ + 6 * n) ≡ chained b m p κ
-  address-at κ = address-word wide N fl f m′ B wB enB k kid-live (A .threes k) (newThree y Q) [] threes-are κ ∙ at-is wide m i c t p ck κ
+  holds : Holds B k y v
+  holds = record { live = kid-live; three = newThree y Q; here = three-there wide m i c t p ck; at = λ κ. refl }
 
   listed : ThreeAt b m′ k (Geometry.directoryIndex b (Geometry.pageOf b t)) p (Conditions.link b m p) (Conditions.link b m (Conditions.link b m p))
-  unfolding word rootPage idx pageOf
-  listed = record {
-    place = n;
-    inside = omega (arith, threes-is wide N fl f m′ B wB enB k kid-live, ap length threes-are, length-append (A .threes k) (newThree y Q ∷ []));
-    stands = (stands pt, stands s1, stands s2);
-    first = address-at pt;
-    second = address-at s1;
-    third = address-at s2;
-  }
+  unfolding idx pageOf
+  listed =
+      let s = shown wide N fl f m′ B wB (cell b B) enB k y v holds in
+      rw (at-is wide m i c t p ck pt, at-is wide m i c t p ck s1, at-is wide m i c t p ck s2) at s
 
   -- ---- collect passes
 
@@ -153,9 +137,15 @@ module _ {b : ℕ} (wide : 6 ≤ b) (m : List ℕ) (i : Inv b m) (c t p : ℕ) (
       ∙ ap (λ (z : ℕ). Partition.lent b m′ (Partition.current b m) z) kid-at
       ∙ first-mark wide N fl f m′ B wB enB (Partition.current b m) caller-live k first′ kid-live
 
+  table-is : Partition.tableFor b m′ k t ≡ link b (Q pt)
+  unfolding linkWord
+  table-is =
+      tableFor-is b m′ k t
+      ∙ table-word wide N fl B wB f m′ (cell b B) enB pt k (pageOf b t) kid-live (ck .t-at .fits)
+      ∙ ap (linkWord b pt) (three-there wide m i c t p ck)
+
   table-there : Partition.tableFor b m′ k t ≢ 0
-  unfolding word rootPage idx pageOf
-  table-there e = link-nz wide (Q pt) (sym (root-word pt) ∙ e)
+  table-there e = link-nz wide (Q pt) (sym table-is ∙ e)
 
   table-role : B .role (Q pt) ≡ tab pt k y
   table-role = Read.three-is wide (B .role) k y (B .threes k) (newThree y Q) (wB .tabs k kid-live) (three-there wide m i c t p ck) .pages pt
@@ -171,8 +161,8 @@ module _ {b : ℕ} (wide : 6 ≤ b) (m : List ℕ) (i : Inv b m) (c t p : ℕ) (
       ∙ Read.cell-none wide B pt k (join b y j) (nothing-there wide m i c t p ck (join b y j) (idx-join wide y j β))
 
   table-page : Geometry.pageOf b (Partition.tableFor b m′ k t) ≡ Q pt
-  unfolding word rootPage idx pageOf
-  table-page = ap (pageOf b) (root-word pt) ∙ pageOf-link wide (Q pt)
+  unfolding pageOf
+  table-page = ap (pageOf b) table-is ∙ pageOf-link wide (Q pt)
 
   table-empty : Conditions.anyMapping b m′ k t ≡ false
   table-empty = ap (λ (z : ℕ). any (λ w. not (eqb w 0)) (Mem.page b m′ z)) table-page ∙ none-in (Mem.page b m′ (Q pt)) (λ j. go j (decLt j (W b)))

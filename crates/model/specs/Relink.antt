@@ -2,8 +2,7 @@
 use mathlib.Core.Path.{_≡_, sym, ap, _∙_, subst}
 use mathlib.Core.Option.{Option}
 use mathlib.Core.List.{List}
-use Prim.Native.Nat.{ℕ, _+_, _*_, _≤_, _<_}
-use native.Mathlib.Omega.{arith}
+use Prim.Native.Nat.{ℕ, _≤_}
 use Rattle.memory.specs.Geometry
 use Rattle.memory.specs.Partition
 use Rattle.rules.specs.Row.{ok, reply, pass}
@@ -12,15 +11,13 @@ use Rattle.rules.specs.Conditions
 use Rattle.rules.specs.Refusals.{refusal}
 use Rattle.rules.specs.Effects.{effect}
 use Rattle.rules.specs.Calls.{result, answer, after}
-use Rattle.model.specs.Words.{addr, word, link, idx, pageOf, addr-inj}
-use Rattle.model.specs.Abs.{Kind, pt, s1, s2, desc, Abs, headV, cell, linkWord}
-use Rattle.model.specs.Read.{rootPage, tableAt, table-word}
+use Rattle.model.specs.Words.{addr, word, link, idx, pageOf}
+use Rattle.model.specs.Abs.{Kind, pt, s1, s2, desc, Abs, headV, cell}
 use Rattle.model.specs.Fill.{First}
 use Rattle.model.specs.Format.{flat0}
 use Rattle.model.specs.Inv.{fixed, Inv, live, cur-is}
-use Rattle.model.specs.ChainChecks.{by-kind, collect-checks}
-use Rattle.model.specs.ListPage.{threes-is}
-use Rattle.model.specs.SixWords.{addressAt, pageAt, Place, place, address-word, page-word}
+use Rattle.model.specs.ChainChecks.{collect-checks}
+use Rattle.model.specs.ThreeHeld.{triple, read-three}
 use Rattle.model.specs.ChildPage.{first-mapping}
 use Rattle.model.specs.CollectPlace.{Found, found}
 use Rattle.model.specs.CollectThree.{H, next, collectedA, collected, collected-inv, link-words}
@@ -74,45 +71,11 @@ module _ {b : ℕ} (wide : 6 ≤ b) (m : List ℕ) (i : Inv b m) (c t : ℕ) (fd
   unfolding answer reply result word
   answers-first e = ap (λ (n : ℕ). reply n (result b m (collect c t))) e ∙ ap ok (fd .words pt)
 
-  -- ---- the addresses, as the list has them
-
-  abbrev A : Abs
-  A = i .state
-
-  abbrev d : ℕ
-  d = Conditions.child b m c
-
-  root-word : (k : Kind) → word b m (rootPage b m k d) (idx b (pageOf b t)) ≡ link b (fd .three .page k)
-  unfolding linkWord tableAt word idx
-  root-word k =
-      table-word wide N fl A (i .wf) f m (cell b A) (i .words) k d (pageOf b t) (fd .child .live) (fd .tables .fits)
-      ∙ ap (linkWord b k) (fd .pre .here)
-
-  module _ (n : ℕ) (inside : n < Partition.threes b m d) where
-    at : Place (A .threes d) n
-    at = place (A .threes d) n (omega (arith, threes-is wide N fl f m A (i .wf) (i .words) d (fd .child .live)))
-
-    -- the three at place n is the one found, where the roots' words say so
-    same-page : (k : Kind) → word b m (rootPage b m k d) (idx b (pageOf b t)) ≡ word b m (Partition.list b m d) (pageAt k + 6 * n) + 1 → at .three .page k ≡ fd .three .page k
-    unfolding link addr
-    same-page k e =
-        let w : word b m (Partition.list b m d) (pageAt k + 6 * n) ≡ addr b (at .three .page k) = ap (λ (z : ℕ). word b m (Partition.list b m d) (pageAt k + 6 * z)) (sym (at .size)) ∙ page-word wide N fl f m A (i .wf) (i .words) d (fd .child .live) (at .before) (at .three) (at .after) (at .is) k in
-        sym (addr-inj wide _ _ (omega (arith, root-word k)))
-
-    same-address : (k : Kind) → at .three .page k ≡ fd .three .page k → word b m (Partition.list b m d) (addressAt k + 6 * n) ≡ H wide m i c t fd k
-    same-address k e =
-        ap (λ (z : ℕ). word b m (Partition.list b m d) (addressAt k + 6 * z)) (sym (at .size))
-        ∙ address-word wide N fl f m A (i .wf) (i .words) d (fd .child .live) (at .before) (at .three) (at .after) (at .is) k
-        ∙ ap (λ (z : ℕ). addr b (headV (A .chain z))) e
-
-  addresses : (v₁ v₂ v₃ : ℕ) → ThreeAt b m d (Geometry.directoryIndex b (Geometry.pageOf b t)) v₁ v₂ v₃ → (H wide m i c t fd pt ≡ v₁) × (H wide m i c t fd s1 ≡ v₂) × (H wide m i c t fd s2 ≡ v₃)
-  unfolding word rootPage idx pageOf
-  addresses v₁ v₂ v₃ th =
-      let s : (k : Kind) → at (th .place) (th .inside) .three .page k ≡ fd .three .page k = by-kind _ (same-page (th .place) (th .inside) pt (th .stands .0)) (same-page (th .place) (th .inside) s1 (th .stands .1)) (same-page (th .place) (th .inside) s2 (th .stands .2)) in (
-        sym (same-address (th .place) (th .inside) pt (s pt)) ∙ th .first,
-        sym (same-address (th .place) (th .inside) s1 (s s1)) ∙ th .second,
-        sym (same-address (th .place) (th .inside) s2 (s s2)) ∙ th .third,
-      )
+  -- the addresses, as the list has them
+  addresses : (v₁ v₂ v₃ : ℕ) → ThreeAt b m (Conditions.child b m c) (Geometry.directoryIndex b (Geometry.pageOf b t)) v₁ v₂ v₃ → (k : Kind) → H wide m i c t fd k ≡ triple v₁ v₂ v₃ k
+  unfolding idx pageOf
+  addresses v₁ v₂ v₃ th k =
+      read-three wide N fl f m (i .state) (i .wf) (cell b (i .state)) (i .words) (Conditions.child b m c) (Geometry.directoryIndex b (Geometry.pageOf b t)) (fd .child .live) v₁ v₂ v₃ th (fd .three) (fd .pre .here) k
 
 module _ {b : ℕ} (wide : 6 ≤ b) (m : List ℕ) (i : Inv b m) where
   -- collect answers the first address of the three, and chains its pages in the list's order
@@ -121,6 +84,6 @@ module _ {b : ℕ} (wide : 6 ≤ b) (m : List ℕ) (i : Inv b m) where
   unfolding after pass
   collect-chain c t v₁ v₂ v₃ e th =
       let fd : Found m i c t = found wide m i c t (collect-checks b m c t e) in
-      let (a₁, a₂, a₃) = addresses wide m i c t fd v₁ v₂ v₃ th in
-      let r : Chain b (effect b m (collect c t)) v₁ v₂ v₃ = rw (← a₁, ← a₂, ← a₃) (relinked wide m i c t fd) in
-      (answers-first wide m i c t fd e ∙ ap ok a₁, subst (λ (n : ℕ). Chain b (pass n (effect b m (collect c t)) m) v₁ v₂ v₃) (sym e) r)
+      let a = addresses wide m i c t fd v₁ v₂ v₃ th in
+      let r : Chain b (effect b m (collect c t)) v₁ v₂ v₃ = rw (← (a pt), ← (a s1), ← (a s2)) (relinked wide m i c t fd) in
+      (answers-first wide m i c t fd e ∙ ap ok (a pt), subst (λ (n : ℕ). Chain b (pass n (effect b m (collect c t)) m) v₁ v₂ v₃) (sym e) r)

@@ -2,6 +2,7 @@
 use mathlib.Core.Path.{_≡_}
 use mathlib.Core.List.{List}
 use Prim.Native.Nat.{ℕ, _+_, _*_, _<_}
+use Rattle.memory.specs.Geometry.{pageWords}
 use Rattle.memory.specs.Words.{word}
 use Rattle.memory.specs.Partition.{list, threes}
 use Rattle.memory.specs.Sound.{Stands}
@@ -20,6 +21,7 @@ module _ (b : ℕ) where
 
   -- partition d has a three at directory index i, and its list has the addresses v₁, v₂, v₃ for it, in that order
   pub record ThreeAt (m : List ℕ) (d i v₁ v₂ v₃ : ℕ) : Type 0 where
+    pub fits : i < pageWords b
     pub place : ℕ
     pub inside : place < threes b m d
     pub stands : Stands b m d place i
