@@ -3,12 +3,12 @@ use mathlib.Core.Path.{_≡_, refl, sym, ap, _∙_, subst}
 use mathlib.Core.Logic.{_≢_}
 use mathlib.Core.Bool.{Bool, false, not, _||_}
 use mathlib.Core.Option.{Option}
-use mathlib.Core.List.{List, [], _∷_, _++_}
+use mathlib.Core.List.{List, [], _∷_}
 use Prim.Native.Nat.{ℕ, suc, _≤_, _<_}
 use native.Mathlib.Omega.{arith}
 use borrow.Author.Tests.{eq-eqb, ne-eqb}
 use lib.Dec.{eqb}
-use lib.ListN.{length, getD, List·getD-eq-default}
+use lib.ListN.{getD, List·getD-eq-default}
 use native.Mathlib.Decide.{decLt}
 use Rattle.walk.specs.Finite.{any}
 use Rattle.memory.specs.Geometry
@@ -23,7 +23,6 @@ use Rattle.rules.specs.Refusals.{refusals, refusal}
 use Rattle.rules.specs.Effects.{effect}
 use Rattle.rules.specs.Calls.{answer, after}
 use Rattle.rules.proofs.Rows.{First, none, on, first-is}
-use Rattle.model.specs.Base.{upd-same}
 use Rattle.model.specs.Words.{W, addr, word, link, link-nz, idx, pageOf, pageOf-link, join, idx-join, sixty-one}
 use Rattle.model.specs.Abs.{Kind, pt, s1, s2, Role, desc, tab, isHand, headV, roleWord, Abs, WF, Encodes, cell, linkWord}
 use Rattle.model.specs.Facts.{differ}
@@ -80,12 +79,6 @@ module _ {b : ℕ} (wide : 6 ≤ b) (m : List ℕ) (i : Inv b m) (c t p : ℕ) (
 
   enB : Encodes b N f m′ B
   enB = prepared wide m i c t p ck .1
-
-  abbrev n : ℕ
-  n = length (A .threes k)
-
-  threes-are : B .threes k ≡ A .threes k ++ newThree y Q ∷ []
-  threes-are = upd-same (A .threes) k _
 
   kid-live : B .role k ≡ desc
   kid-live = go (prepared-view wide m i c t p ck k)
