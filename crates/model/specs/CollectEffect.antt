@@ -13,7 +13,7 @@ use Rattle.memory.specs.Words as Mem
 use Rattle.rules.specs.Effects.{dropThree}
 use Rattle.model.specs.Base.{eqd}
 use Rattle.model.specs.Words.{W, word, put, putL, Sized, put-sized, word-put-same, word-put-other, putL-sized, putL-other, putL-same, sixty-one}
-use Rattle.model.specs.Abs.{Kind, pt, s1, s2, root, lst, Three, Abs, WF, Encodes, isHand, cell, listList}
+use Rattle.model.specs.Abs.{Kind, pt, s1, s2, root, lst, Three, Abs, WF, Encodes, isHand, listList}
 use Rattle.model.specs.Facts.{differ}
 use Rattle.model.specs.Read.{kernel-lt, three-is}
 use Rattle.model.specs.Collect.{without, CollPre}
@@ -62,13 +62,13 @@ module _ {b : ℕ} (wide : 6 ≤ b) (N : ℕ) (fl : ℕ → Option ℕ) (f m : L
   room = omega (arith, wf .ten d (pre .live), ap length (sp .is), sixty-one wide)
 
   pub list-words : (y : ℕ) → y < W b → word b m L y ≡ getD (listList b (A .chain) (xs ++ th ∷ ys)) y 0
-  list-words y β = list-word wide N fl f m A wf (cell b A) en d (pre .live) y β ∙ ap (λ (z : List Three). getD (listList b (A .chain) z) y 0) (sp .is)
+  list-words y β = list-word wide N fl f m A wf en d (pre .live) y β ∙ ap (λ (z : List Three). getD (listList b (A .chain) z) y 0) (sp .is)
 
   abbrev ws : List ℕ
   ws = dropThree (length xs) (Mem.page b m L)
 
   L-lt : L < N
-  L-lt = list-lt wide N fl f m A wf (cell b A) en d (pre .live)
+  L-lt = list-lt wide N fl f m A wf en d (pre .live)
 
   size : length (Mem.page b m L) ≡ W b
   size = page-size b N m L (en .sized) L-lt

@@ -138,7 +138,7 @@ module _ {b : ℕ} (wide : 6 ≤ b) (m : List ℕ) (i : Inv b m) (c t : ℕ) (ck
   ys = sp .after
 
   list-at : Partition.list b m d ≡ A .lstp d
-  list-at = list-page wide N fl f m A wf (cell b A) en d (chd .live)
+  list-at = list-page wide N fl f m A wf en d (chd .live)
 
   table-is : Partition.tableFor b m d t - 1 ≡ addr b (th .page pt)
   unfolding linkWord link addr
@@ -146,9 +146,9 @@ module _ {b : ℕ} (wide : 6 ≤ b) (m : List ℕ) (i : Inv b m) (c t : ℕ) (ck
 
   place-at : threePlace b m d t ≡ length xs
   place-at =
-      let n : Partition.threes b m d ≡ length (xs ++ th ∷ ys) = threes-is wide N fl f m A wf (cell b A) en d (chd .live) ∙ ap length (sp .is) in
+      let n : Partition.threes b m d ≡ length (xs ++ th ∷ ys) = threes-is wide N fl f m A wf en d (chd .live) ∙ ap length (sp .is) in
       let e : threePlace b m d t ≡ placeOf b (length (xs ++ th ∷ ys)) 0 m (A .lstp d) (addr b (th .page pt)) = cc (n, list-at, table-is) in
-      let s : Shown b (A .chain) m (A .lstp d) 0 (xs ++ th ∷ ys) = λ y β. (let z : 1 + 6 * 0 + y ≡ suc y = omega arith in ap (word b m (A .lstp d)) z ∙ pair-words wide N fl f m A wf (cell b A) en d (chd .live) xs th ys (sp .is) y β) in
+      let s : Shown b (A .chain) m (A .lstp d) 0 (xs ++ th ∷ ys) = λ y β. (let z : 1 + 6 * 0 + y ≡ suc y = omega arith in ap (word b m (A .lstp d)) z ∙ pair-words wide N fl f m A wf en d (chd .live) xs th ys (sp .is) y β) in
       e ∙ place-is wide (A .chain) m (A .lstp d) 0 xs th ys (sp .apart) s ∙ omega arith
 
   -- the address of its page in the caller
@@ -156,7 +156,7 @@ module _ {b : ℕ} (wide : 6 ≤ b) (m : List ℕ) (i : Inv b m) (c t : ℕ) (ck
   H k = addr b (headV (A .chain (th .page k)))
 
   word-at : (k : Kind) → word b m (Partition.list b m d) (addressAt k + 6 * threePlace b m d t) ≡ H k
-  word-at k = ap (λ (z : ℕ). word b m (Partition.list b m d) (addressAt k + 6 * z)) place-at ∙ address-word wide N fl f m A wf (cell b A) en d (chd .live) xs th ys (sp .is) k
+  word-at k = ap (λ (z : ℕ). word b m (Partition.list b m d) (addressAt k + 6 * z)) place-at ∙ address-word wide N fl f m A wf en d (chd .live) xs th ys (sp .is) k
 
   first : (k : Kind) → First A o (th .page k)
   first k =

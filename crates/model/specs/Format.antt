@@ -24,20 +24,20 @@ kindNo pt = 0
 kindNo s1 = 1
 kindNo s2 = 2
 
-kind-back : (k : Kind) → kindAt (kindNo k) ≡ k
+pub kind-back : (k : Kind) → kindAt (kindNo k) ≡ k
 unfolding kindAt kindNo
 kind-back pt = refl
 kind-back s1 = refl
 kind-back s2 = refl
 
-kind-no : (n : ℕ) → n < 3 → kindNo (kindAt n) ≡ n
+pub kind-no : (n : ℕ) → n < 3 → kindNo (kindAt n) ≡ n
 unfolding kindAt kindNo
 kind-no zero l = refl
 kind-no (suc zero) l = refl
 kind-no (suc (suc zero)) l = refl
 kind-no (suc (suc (suc n))) l = absurd (omega arith)
 
-kind-lt : (k : Kind) → kindNo k < 3
+pub kind-lt : (k : Kind) → kindNo k < 3
 unfolding kindNo
 kind-lt pt = omega arith
 kind-lt s1 = omega arith
@@ -84,12 +84,12 @@ module _ (N T : ℕ) where
   start = record { role = role0; chain = chain0; maps = maps0; rootp = rootp0; lstp = λ d. 5; threes = λ d. pick (eqd d 1) (upTo T) []; cur = 1 }
 
   -- lookups among the threes
-  at-above : (n i : ℕ) → n ≤ i → threeAt i (upTo n) ≡ none
+  pub at-above : (n i : ℕ) → n ≤ i → threeAt i (upTo n) ≡ none
   unfolding upTo three0
   at-above zero i l = at-nil i
   at-above (suc n) i l = at-last i (upTo n) (three0 n) (at-above n i (omega arith)) ∙ at-on i (three0 n) [] (λ e. omega arith) ∙ at-nil i
 
-  at-below : (n i : ℕ) → i < n → threeAt i (upTo n) ≡ some (three0 i)
+  pub at-below : (n i : ℕ) → i < n → threeAt i (upTo n) ≡ some (three0 i)
   unfolding upTo three0
   at-below zero i l = absurd (omega arith)
   at-below (suc n) i l = go (decLt i n) (λ l′. at-below n i l′)
@@ -100,7 +100,7 @@ module _ (N T : ℕ) where
           let e : i ≡ n = omega arith in
           at-last i (upTo n) (three0 n) (at-above n i (omega arith)) ∙ at-here i (three0 n) [] e ∙ ap (λ (x : ℕ). some (three0 x)) (sym e)
 
-  length-upTo : (n : ℕ) → length (upTo n) ≡ n
+  pub length-upTo : (n : ℕ) → length (upTo n) ≡ n
   unfolding upTo
   length-upTo zero = refl
   length-upTo (suc n) = rw length-append (let e = length-upTo n in omega arith)
@@ -120,7 +120,7 @@ module _ (N T : ℕ) where
       let d : n / 3 ≡ i = omega arith in
       ap role0 e ∙ late-is n (omega arith) ∙ ap (λ (x : ℕ). tab (kindAt x) 1 (n / 3)) m ∙ ap (λ (x : ℕ). tab (kindAt (kindNo k)) 1 x) d ∙ ap (λ (x : Kind). tab x 1 i) (kind-back k)
 
-  data View (q : ℕ) : Type 0 where
+  pub data View (q : ℕ) : Type 0 where
     v-head : q ≡ 0 → role0 q ≡ header → View q
     v-desc : q ≡ 1 → role0 q ≡ desc → View q
     v-root : (k : Kind) → q ≡ 2 + kindNo k → role0 q ≡ root k 1 → View q
@@ -128,7 +128,7 @@ module _ (N T : ℕ) where
     v-tab : (n : ℕ) → q ≡ 6 + n → n < 3 * T → role0 q ≡ tab (kindAt (n % 3)) 1 (n / 3) → View q
     v-hand : 6 + 3 * T ≤ q → role0 q ≡ hand → View q
 
-  view : (q : ℕ) → View q
+  pub view : (q : ℕ) → View q
   unfolding role0 lateRole kindNo
   view zero = v-head refl refl
   view (suc zero) = v-desc refl refl
@@ -146,7 +146,7 @@ module _ (N T : ℕ) where
   unfolding chain0
   low q l = pick-yes (decLt q (6 + 3 * T)) [] _ l
 
-  mid : (q : ℕ) → 6 + 3 * T ≤ q → q < N → chain0 q ≡ flatHop q ∷ []
+  pub mid : (q : ℕ) → 6 + 3 * T ≤ q → q < N → chain0 q ≡ flatHop q ∷ []
   unfolding chain0
   mid q a β = pick-no (decLt q (6 + 3 * T)) [] _ (λ l. omega arith) ∙ pick-yes (decLt q N) _ [] β
 
@@ -191,7 +191,7 @@ module _ (N T : ℕ) where
   unfolding role0
   one-is = refl
 
-  flat-is : (v : ℕ) → 0 < v → 5 + 3 * T + v < N → maps0 1 v ≡ some (5 + 3 * T + v)
+  pub flat-is : (v : ℕ) → 0 < v → 5 + 3 * T + v < N → maps0 1 v ≡ some (5 + 3 * T + v)
   unfolding maps0 flat0
   flat-is v a β = pick-yes (eqd 1 1) _ none refl ∙ pick-yes (decLt 0 v) _ none a ∙ pick-yes (decLt (5 + 3 * T + v) N) _ none β
 

@@ -17,7 +17,7 @@ module _ {b : ℕ} (wide : 6 ≤ b) where
   unfolding roleWord descList
   nine-word f A C d = refl
 
-  module _ (N : ℕ) (fl : ℕ → Option ℕ) (f m : List ℕ) (A : Abs) (wf : WF b N fl A) (C : Cells) (en : EncodesC b N f m A C) (d : ℕ) (l : A .role d ≡ desc) where
+  module _ (N : ℕ) (fl : ℕ → Option ℕ) (f m : List ℕ) (A : Abs) (wf : WF b N fl A) {C : Cells} (en : EncodesC b N f m A C) (d : ℕ) (l : A .role d ≡ desc) where
     L-role : A .role (A .lstp d) ≡ lst d
     L-role = wf .lst-role d l
 

@@ -112,7 +112,7 @@ module _ {b : ℕ} (wide : 6 ≤ b) (m : List ℕ) (i : Inv b m) (c t p : ℕ) (
     live = keep-three A P blank desc d (chd .live) (λ k e. differ (sym (hP k .in-hand) ∙ e) (omega arith));
     child = record { hop = chd .first .hop; rest = chd .first .rest; is = chd .first .is; part = chd .first .part };
     fits = ck .t-at .fits;
-    room = omega (arith, ck .room, threes-is wide N fl f m A wf (cell b A) en d (chd .live));
+    room = omega (arith, ck .room, threes-is wide N fl f m A wf en d (chd .live));
     new = new;
     P-blank = on-three A P blank;
     P-first = λ k. record { hop = hP k .hop; rest = hP k .rest; is = hP k .is; part = hP k .part };
@@ -152,10 +152,10 @@ module _ {b : ℕ} (wide : 6 ≤ b) (m : List ℕ) (i : Inv b m) (c t p : ℕ) (
   root-is k = root-page wide N fl A wf f m (cell b A) en k d (chd .live)
 
   list-at : Partition.list b m d ≡ A .lstp d
-  list-at = list-page wide N fl f m A wf (cell b A) en d (chd .live)
+  list-at = list-page wide N fl f m A wf en d (chd .live)
 
   free-at : word b m (Partition.list b m d) 0 ≡ 1 + 6 * length (A .threes d)
-  free-at = ap (λ (z : ℕ). word b m z 0) list-at ∙ free-is wide N fl f m A wf (cell b A) en d (chd .live)
+  free-at = ap (λ (z : ℕ). word b m z 0) list-at ∙ free-is wide N fl f m A wf en d (chd .live)
 
   same : effect b m (prepare c t p) ≡ prepM wide N fl f A3 (taken .0) o d x P pre (takeAll b m o (addr b (v pt) ∷ addr b (v s1) ∷ addr b (v s2) ∷ []))
   same =

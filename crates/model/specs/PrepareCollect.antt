@@ -14,8 +14,6 @@ use Rattle.walk.specs.Finite.{any}
 use Rattle.memory.specs.Geometry
 use Rattle.memory.specs.Words as Mem
 use Rattle.memory.specs.Partition
-use Rattle.memory.specs.Sound.{Sound}
-use Rattle.soundness.proofs.Whole.{sound?}
 use Rattle.rules.specs.Row.{ok, pass}
 use Rattle.rules.specs.Call.{prepare, collect}
 use Rattle.rules.specs.Conditions
@@ -23,7 +21,7 @@ use Rattle.rules.specs.Refusals.{refusals, refusal}
 use Rattle.rules.specs.Effects.{effect}
 use Rattle.rules.specs.Calls.{answer, after}
 use Rattle.rules.proofs.Rows.{First, none, on, first-is}
-use Rattle.model.specs.Words.{W, addr, word, link, link-nz, idx, pageOf, pageOf-link, join, idx-join, sixty-one}
+use Rattle.model.specs.Words.{W, addr, word, link, link-nz, idx, pageOf, pageOf-link, join, idx-join}
 use Rattle.model.specs.Abs.{Kind, pt, s1, s2, Role, desc, tab, isHand, headV, roleWord, Abs, WF, Encodes, cell, linkWord}
 use Rattle.model.specs.Facts.{differ}
 use Rattle.model.specs.Read
@@ -37,6 +35,7 @@ use Rattle.model.specs.Names.{tableFor-is}
 use Rattle.model.specs.ThreeHeld.{Holds, shown}
 use Rattle.model.specs.CollectEffect.{page-word, page-size}
 use Rattle.model.specs.ChildPage.{first-mapping, first-mark}
+use Rattle.model.specs.SoundAll.{inv-whole}
 use Rattle.model.specs.Prepare.{three-there, nothing-there, d, x, chd, P, hP, at-is, preparedA, prepared, prepared-view, prepared-inv, keep-prepare}
 use Rattle.model.specs.SameChain.{Chain, ThreeAt, SameChain}
 use Rattle.model.specs.Relink.{collect-chain}
@@ -98,7 +97,7 @@ module _ {b : ℕ} (wide : 6 ≤ b) (m : List ℕ) (i : Inv b m) (c t p : ℕ) (
   listed : ThreeAt b m′ k (Geometry.directoryIndex b (Geometry.pageOf b t)) p (Conditions.link b m p) (Conditions.link b m (Conditions.link b m p))
   unfolding idx pageOf
   listed =
-      let s = shown wide N fl f m′ B wB (cell b B) enB k y v holds in
+      let s = shown wide N fl f m′ B wB enB k y v holds in
       rw (at-is wide m i c t p ck pt, at-is wide m i c t p ck s1, at-is wide m i c t p ck s2) at s
 
   -- ---- collect passes
@@ -202,11 +201,6 @@ module _ {b : ℕ} (wide : 6 ≤ b) (m : List ℕ) (i : Inv b m) where
       subst (λ (z : ℕ). ThreeAt b (pass z (effect b m (prepare c t p)) m) (Conditions.child b m c) (Geometry.directoryIndex b (Geometry.pageOf b t)) p (Conditions.link b m p) (Conditions.link b m (Conditions.link b m p)))
       (sym e) (listed wide m i c t p (prepare-checks b m c t p e))
 
--- collect passes where the memory that prepare leaves is sound: given that the invariant makes it so
-module _ {b : ℕ} (wide : 6 ≤ b) (sound : (m : List ℕ) → Inv b m → Sound b m) (m : List ℕ) (i : Inv b m) where
-  undamaged : (m′ : List ℕ) → Inv b m′ → Conditions.damaged b m′ ≡ false
-  unfolding W
-  undamaged m′ j = ap not (sound? b m′ (sixty-one wide) .1 (sound m′ j))
-
+  -- collect gives the same chain back
   pub same-chain : (c t p : ℕ) → refusal b m (prepare c t p) ≡ 0 → SameChain b m c t p
-  same-chain c t p e = same-after wide m i c t p (prepare-checks b m c t p e) (undamaged _ (keep-prepare wide m i c t p e)) e
+  same-chain c t p e = same-after wide m i c t p (prepare-checks b m c t p e) (inv-whole wide _ (keep-prepare wide m i c t p e)) e

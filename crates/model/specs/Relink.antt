@@ -12,7 +12,7 @@ use Rattle.rules.specs.Refusals.{refusal}
 use Rattle.rules.specs.Effects.{effect}
 use Rattle.rules.specs.Calls.{result, answer, after}
 use Rattle.model.specs.Words.{addr, word, link, idx, pageOf}
-use Rattle.model.specs.Abs.{Kind, pt, s1, s2, desc, Abs, headV, cell}
+use Rattle.model.specs.Abs.{Kind, pt, s1, s2, desc, Abs, headV}
 use Rattle.model.specs.Fill.{First}
 use Rattle.model.specs.Format.{flat0}
 use Rattle.model.specs.Inv.{fixed, Inv, live, cur-is}
@@ -75,7 +75,7 @@ module _ {b : ℕ} (wide : 6 ≤ b) (m : List ℕ) (i : Inv b m) (c t : ℕ) (fd
   addresses : (v₁ v₂ v₃ : ℕ) → ThreeAt b m (Conditions.child b m c) (Geometry.directoryIndex b (Geometry.pageOf b t)) v₁ v₂ v₃ → (k : Kind) → H wide m i c t fd k ≡ triple v₁ v₂ v₃ k
   unfolding idx pageOf
   addresses v₁ v₂ v₃ th k =
-      read-three wide N fl f m (i .state) (i .wf) (cell b (i .state)) (i .words) (Conditions.child b m c) (Geometry.directoryIndex b (Geometry.pageOf b t)) (fd .child .live) v₁ v₂ v₃ th (fd .three) (fd .pre .here) k
+      read-three wide N fl f m (i .state) (i .wf) (i .words) (Conditions.child b m c) (Geometry.directoryIndex b (Geometry.pageOf b t)) (fd .child .live) v₁ v₂ v₃ th (fd .three) (fd .pre .here) k
 
 module _ {b : ℕ} (wide : 6 ≤ b) (m : List ℕ) (i : Inv b m) where
   -- collect answers the first address of the three, and chains its pages in the list's order

@@ -38,18 +38,18 @@ place (t ∷ ts) (suc j) l =
     let r = place ts j (omega arith) in
     record { before = t ∷ r .before; three = r .three; after = r .after; is = ap (λ (z : List Three). t ∷ z) (r .is); size = ap suc (r .size) }
 
-module _ {b : ℕ} (wide : 6 ≤ b) (N : ℕ) (fl : ℕ → Option ℕ) (f m : List ℕ) (A : Abs) (wf : WF b N fl A) (C : Cells) (en : EncodesC b N f m A C) (d : ℕ) (l : A .role d ≡ desc)
+module _ {b : ℕ} (wide : 6 ≤ b) (N : ℕ) (fl : ℕ → Option ℕ) (f m : List ℕ) (A : Abs) (wf : WF b N fl A) {C : Cells} (en : EncodesC b N f m A C) (d : ℕ) (l : A .role d ≡ desc)
     (xs : List Three) (t : Three) (ys : List Three) (is : A .threes d ≡ xs ++ t ∷ ys) where
   room : 1 + 6 * length (xs ++ t ∷ ys) ≤ W b
   room = omega (arith, wf .ten d l, ap length is, sixty-one wide)
 
   pub pair-words : (y : ℕ) → y < 6 * length (xs ++ t ∷ ys) → word b m (A .lstp d) (suc y) ≡ getD (listPairs b (A .chain) (xs ++ t ∷ ys)) y 0
   unfolding listList
-  pair-words y β = list-word wide N fl f m A wf C en d l (suc y) (omega (arith, room)) ∙ ap (λ (z : List Three). getD (listList b (A .chain) z) (suc y) 0) is
+  pair-words y β = list-word wide N fl f m A wf en d l (suc y) (omega (arith, room)) ∙ ap (λ (z : List Three). getD (listList b (A .chain) z) (suc y) 0) is
 
   six-word : (z y : ℕ) → z ≡ suc (6 * length xs + y) → y < 6 → word b m (Partition.list b m d) z ≡ getD (listPairs b (A .chain) (t ∷ ys)) y 0
   six-word z y e β =
-      ap (λ (p : ℕ). word b m p z) (list-page wide N fl f m A wf C en d l)
+      ap (λ (p : ℕ). word b m p z) (list-page wide N fl f m A wf en d l)
       ∙ ap (word b m (A .lstp d)) e
       ∙ pair-words (6 * length xs + y) (omega (arith, length-append xs (t ∷ ys)))
       ∙ six-at wide (A .chain) xs t ys y

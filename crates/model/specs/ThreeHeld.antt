@@ -27,7 +27,7 @@ pub record Holds (A : Abs) (d i : ℕ) (v : Kind → ℕ) : Type 0 where
   pub here : threeAt i (A .threes d) ≡ some three
   pub at : (k : Kind) → headV (A .chain (three .page k)) ≡ v k
 
-module _ {b : ℕ} (wide : 6 ≤ b) (N : ℕ) (fl : ℕ → Option ℕ) (f m : List ℕ) (A : Abs) (wf : WF b N fl A) (C : Cells) (en : EncodesC b N f m A C) (d i : ℕ) where
+module _ {b : ℕ} (wide : 6 ≤ b) (N : ℕ) (fl : ℕ → Option ℕ) (f m : List ℕ) (A : Abs) (wf : WF b N fl A) {C : Cells} (en : EncodesC b N f m A C) (d i : ℕ) where
   -- the roots' words at the index
   root-word : A .role d ≡ desc → i < W b → (t : Three) → threeAt i (A .threes d) ≡ some t → (k : Kind) → word b m (rootPage b m k d) i ≡ link b (t .page k)
   unfolding linkWord tableAt word idx
@@ -43,13 +43,13 @@ module _ {b : ℕ} (wide : 6 ≤ b) (N : ℕ) (fl : ℕ → Option ℕ) (f m : L
       let t = h .three in
       let sp : Split i (A .threes d) t = split wide (A .role) d i (A .threes d) t (wf .tabs d (h .live)) (h .here) in
       let β : i < W b = three-is wide (A .role) d i (A .threes d) t (wf .tabs d (h .live)) (h .here) .fits in
-      let pages : (k : Kind) → word b m (Partition.list b m d) (pageAt k + 6 * length (sp .before)) ≡ addr b (t .page k) = page-word wide N fl f m A wf C en d (h .live) (sp .before) t (sp .after) (sp .is) in
+      let pages : (k : Kind) → word b m (Partition.list b m d) (pageAt k + 6 * length (sp .before)) ≡ addr b (t .page k) = page-word wide N fl f m A wf en d (h .live) (sp .before) t (sp .after) (sp .is) in
       let stand : (k : Kind) → word b m (rootPage b m k d) i ≡ word b m (Partition.list b m d) (pageAt k + 6 * length (sp .before)) + 1 = λ k. root-word (h .live) β t (h .here) k ∙ ap (λ (x : ℕ). x + 1) (sym (pages k)) in
-      let address : (k : Kind) → word b m (Partition.list b m d) (addressAt k + 6 * length (sp .before)) ≡ addr b (v k) = λ k. address-word wide N fl f m A wf C en d (h .live) (sp .before) t (sp .after) (sp .is) k ∙ ap (λ (x : ℕ). addr b x) (h .at k) in
+      let address : (k : Kind) → word b m (Partition.list b m d) (addressAt k + 6 * length (sp .before)) ≡ addr b (v k) = λ k. address-word wide N fl f m A wf en d (h .live) (sp .before) t (sp .after) (sp .is) k ∙ ap (λ (x : ℕ). addr b x) (h .at k) in
       record {
         fits = β;
         place = length (sp .before);
-        inside = omega (arith, threes-is wide N fl f m A wf C en d (h .live), ap length (sp .is), length-append (sp .before) (t ∷ sp .after));
+        inside = omega (arith, threes-is wide N fl f m A wf en d (h .live), ap length (sp .is), length-append (sp .before) (t ∷ sp .after));
         stands = (stand pt, stand s1, stand s2);
         first = address pt;
         second = address s1;
@@ -59,7 +59,7 @@ module _ {b : ℕ} (wide : 6 ≤ b) (N : ℕ) (fl : ℕ → Option ℕ) (f m : L
   -- and back
   module _ (l : A .role d ≡ desc) (v₁ v₂ v₃ : ℕ) (th : ThreeAt b m d i v₁ v₂ v₃) where
     at : Place (A .threes d) (th .place)
-    at = place (A .threes d) (th .place) (omega (arith, th .inside, threes-is wide N fl f m A wf C en d l))
+    at = place (A .threes d) (th .place) (omega (arith, th .inside, threes-is wide N fl f m A wf en d l))
 
     stand : (k : Kind) → word b m (rootPage b m k d) i ≡ word b m (Partition.list b m d) (pageAt k + 6 * th .place) + 1
     unfolding word rootPage
@@ -72,7 +72,7 @@ module _ {b : ℕ} (wide : 6 ≤ b) (N : ℕ) (fl : ℕ → Option ℕ) (f m : L
     root-is k =
         stand k
         ∙ ap (λ (x : ℕ). word b m (Partition.list b m d) (pageAt k + 6 * x) + 1) (sym (at .size))
-        ∙ ap (λ (x : ℕ). x + 1) (page-word wide N fl f m A wf C en d l (at .before) (at .three) (at .after) (at .is) k)
+        ∙ ap (λ (x : ℕ). x + 1) (page-word wide N fl f m A wf en d l (at .before) (at .three) (at .after) (at .is) k)
 
     β : i < W b
     unfolding W
@@ -100,7 +100,7 @@ module _ {b : ℕ} (wide : 6 ≤ b) (N : ℕ) (fl : ℕ → Option ℕ) (f m : L
     read-three t e k =
         let s : here .0 ≡ t = some-inj (sym (here .1) ∙ e) in
         sym (ap (λ (x : ℕ). addr b (headV (A .chain x))) (same-page k ∙ ap (λ (x : Three). x .page k) s))
-        ∙ sym (address-word wide N fl f m A wf C en d l (at .before) (at .three) (at .after) (at .is) k)
+        ∙ sym (address-word wide N fl f m A wf en d l (at .before) (at .three) (at .after) (at .is) k)
         ∙ ap (λ (x : ℕ). word b m (Partition.list b m d) (addressAt k + 6 * x)) (at .size)
         ∙ address k
 
