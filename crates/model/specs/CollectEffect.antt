@@ -27,7 +27,7 @@ module _ (b : ℕ) where
   unfoldable pub removed : ℕ → List ℕ → (r₁ r₂ r₃ l : ℕ) → List ℕ → List ℕ
   removed x m r₁ r₂ r₃ l ws = Mem.fill b (put b (put b (put b m r₁ x 0) r₂ x 0) r₃ x 0) l ws
 
-  fill-is : (m : List ℕ) (l : ℕ) (ws : List ℕ) → Mem.fill b m l ws ≡ putL b m l 0 ws
+  pub fill-is : (m : List ℕ) (l : ℕ) (ws : List ℕ) → Mem.fill b m l ws ≡ putL b m l 0 ws
   unfolding Mem.fill putL
   fill-is m l ws = let e : Mem.start b l ≡ Mem.index b l 0 = omega arith in ap (λ (z : ℕ). Mem.overwrite m z ws) e
 

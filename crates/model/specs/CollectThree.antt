@@ -1,7 +1,7 @@
 -- collect that passes its checks: the three leaves the list and the roots, its pages come back chained. The invariant stays.
 use mathlib.Core.Path.{_≡_, refl, sym, ap, _∙_, subst}
 use mathlib.Core.Logic.{_≢_}
-use mathlib.Core.Option.{Option}
+use mathlib.Core.Option.{Option, some}
 use mathlib.Core.List.{List, [], _∷_}
 use Prim.Native.Nat.{ℕ, _+_, _*_, _≤_, _<_}
 use native.Mathlib.Omega.{arith}
@@ -15,12 +15,12 @@ use Rattle.rules.specs.Refusals.{refusal}
 use Rattle.rules.specs.Effects.{dropThree, threePlace, collectThree, effect}
 use Rattle.model.specs.Base.{upd-other}
 use Rattle.model.specs.Words.{W, addr, word, put, idx, pageOf, sixty-one, Sized, put-sized, word-put-same, word-put-other}
-use Rattle.model.specs.Abs.{Kind, pt, s1, s2, hand, blank, desc, Hop, Three, Abs, headV, WF, Encodes, cell}
+use Rattle.model.specs.Abs.{Kind, pt, s1, s2, hand, blank, desc, Hop, Three, Abs, headV, threeAt, WF, Encodes, cell}
 use Rattle.model.specs.Facts.{differ, in-range}
 use Rattle.model.specs.Read.{rootPage, root-page}
 use Rattle.model.specs.Fill.{First}
 use Rattle.model.specs.Move.{free-put}
-use Rattle.model.specs.Collect.{without, CollPre, collA, View, off as gone, on as left, view, coll-wf}
+use Rattle.model.specs.Collect.{without, CollPre, collA, threes-keep, View, off as gone, on as left, view, coll-wf}
 use Rattle.model.specs.CollWords.{coll-words}
 use Rattle.model.specs.CollectEffect.{removed, collect-effect}
 use Rattle.model.specs.Format.{flat0}
@@ -104,17 +104,30 @@ module _ {b : ℕ} (wide : 6 ≤ b) (m : List ℕ) (i : Inv b m) (c t : ℕ) (fd
       go (gone k′ e r) = r
       go (left n r) = absurd (n k refl)
 
-  B-live : B .role o ≡ desc
-  B-live = go (B-view o)
+  -- no partition's descriptor is among them
+  not-desc : (z : ℕ) → A .role z ≡ desc → (k : Kind) → z ≢ th .page k
+  not-desc z e k y = differ (sym (fd .tables .pages k) ∙ sym (ap (A .role) y) ∙ e) (omega arith)
+
+  B-desc : (z : ℕ) → A .role z ≡ desc → B .role z ≡ desc
+  B-desc z e = go (B-view z)
     where
-      go : View wide N fl A wf d x th pre o → B .role o ≡ desc
-      go (gone k e r) = differ (sym (fd .tables .pages k) ∙ sym (ap (A .role) e) ∙ lo) (omega arith)
-      go (left n r) = r ∙ lo
+      go : View wide N fl A wf d x th pre z → B .role z ≡ desc
+      go (gone k y r) = absurd (not-desc z e k y)
+      go (left n r) = r ∙ e
+
+  B-live : B .role o ≡ desc
+  B-live = B-desc o lo
 
   -- ---- and the pages given back
 
   abbrev pub collectedA : Abs
   collectedA = setThree B (th .page) hand
+
+  pub desc-stays : (z : ℕ) → A .role z ≡ desc → collectedA .role z ≡ desc
+  desc-stays z e = off-three B (th .page) hand z (not-desc z e) ∙ B-desc z e
+
+  pub threes-stay : (e j : ℕ) (z : Three) → ¬ ((e ≡ d) × (j ≡ x)) → threeAt j (A .threes e) ≡ some z → threeAt j (collectedA .threes e) ≡ some z
+  threes-stay = threes-keep wide N fl A wf d x th pre
 
   abbrev m₃ : List ℕ
   m₃ = returnAll b m₂ o (H pt ∷ H s1 ∷ H s2 ∷ [])

@@ -66,3 +66,6 @@ pub mod SameChain
 pub mod ThreeHeld
 pub mod Relink
 pub mod PrepareCollect
+pub mod ThreeCarry
+pub mod ThreeCreate
+pub mod ThreeKept

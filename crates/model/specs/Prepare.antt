@@ -20,7 +20,7 @@ use Rattle.model.specs.Facts.{differ}
 use Rattle.model.specs.Read.{rootPage, entry-is, root-page, table-word, unmapped}
 use Rattle.model.specs.Names.{mapping-is}
 use Rattle.model.specs.Take.{Held, held-one, held-page, view-held}
-use Rattle.model.specs.Prep.{PrepPre, newThree, prepA, PrepView, is-P, is-old, view, threes-new, prep-wf}
+use Rattle.model.specs.Prep.{PrepPre, newThree, prepA, PrepView, is-P, is-old, view, threes-keep, threes-new, prep-wf}
 use Rattle.model.specs.PrepWords.{six, prepM, prep-words}
 use Rattle.model.specs.Format.{flat0}
 use Rattle.model.specs.Inv.{fixed, Inv, live}
@@ -172,6 +172,9 @@ module _ {b : ℕ} (wide : 6 ≤ b) (m : List ℕ) (i : Inv b m) (c t p : ℕ) (
   pub three-there : threeAt x (preparedA .threes d) ≡ some (newThree x P)
   three-there = threes-new wide N fl A3 (taken .0) o d x P pre
 
+  pub threes-stay : (e j : ℕ) (z : Three) → threeAt j (A .threes e) ≡ some z → threeAt j (preparedA .threes e) ≡ some z
+  threes-stay = threes-keep wide N fl A3 (taken .0) o d x P pre
+
   pub nothing-there : (z : ℕ) → idx b z ≡ x → preparedA .maps d z ≡ none
   nothing-there z e = unmapped wide N fl A wf d z (ap (λ (y : ℕ). threeAt y (A .threes d)) e ∙ new)
 
@@ -182,6 +185,13 @@ module _ {b : ℕ} (wide : 6 ≤ b) (m : List ℕ) (i : Inv b m) (c t p : ℕ) (
       go : PrepView A3 d x P z (preparedA .role z) → PrepView A d x P z (preparedA .role z)
       go (is-P k e r) = is-P k e r
       go (is-old n r) = is-old n (r ∙ off-three A P blank z n)
+
+  pub desc-stays : (z : ℕ) → A .role z ≡ desc → preparedA .role z ≡ desc
+  desc-stays z e = go (prepared-view z)
+    where
+      go : PrepView A d x P z (preparedA .role z) → preparedA .role z ≡ desc
+      go (is-P k y r) = differ (sym (hP k .in-hand) ∙ sym (ap (A .role) y) ∙ e) (omega arith)
+      go (is-old n r) = r ∙ e
 
   pub prepared-full : (z : ℕ) → preparedA .role z ≢ blank
   prepared-full z e = go (prepared-view z)

@@ -23,11 +23,10 @@ use Rattle.rules.specs.Calls.{answer, after}
 use Rattle.rules.proofs.Rows.{First, none, on, first-is}
 use Rattle.model.specs.Words.{W, addr, word, link, link-nz, idx, pageOf, pageOf-link, join, idx-join}
 use Rattle.model.specs.Abs.{Kind, pt, s1, s2, Role, desc, tab, isHand, headV, roleWord, Abs, WF, Encodes, cell, linkWord}
-use Rattle.model.specs.Facts.{differ}
 use Rattle.model.specs.Read
 use Rattle.model.specs.Read.{table-word}
 use Rattle.model.specs.Fill as Fill
-use Rattle.model.specs.Prep.{newThree, PrepView, is-P, is-old}
+use Rattle.model.specs.Prep.{newThree}
 use Rattle.model.specs.Format.{flat0}
 use Rattle.model.specs.Inv.{fixed, Inv, live, cur-is}
 use Rattle.model.specs.ChainChecks.{PrepareChecks, prepare-checks}
@@ -36,7 +35,7 @@ use Rattle.model.specs.ThreeHeld.{Holds, shown}
 use Rattle.model.specs.CollectEffect.{page-word, page-size}
 use Rattle.model.specs.ChildPage.{first-mapping, first-mark}
 use Rattle.model.specs.SoundAll.{inv-whole}
-use Rattle.model.specs.Prepare.{three-there, nothing-there, d, x, chd, P, hP, at-is, preparedA, prepared, prepared-view, prepared-inv, keep-prepare}
+use Rattle.model.specs.Prepare.{desc-stays, three-there, nothing-there, d, x, chd, P, at-is, preparedA, prepared, prepared-inv, keep-prepare}
 use Rattle.model.specs.SameChain.{Chain, ThreeAt, SameChain}
 use Rattle.model.specs.Relink.{collect-chain}
 
@@ -80,11 +79,7 @@ module _ {b : ℕ} (wide : 6 ≤ b) (m : List ℕ) (i : Inv b m) (c t p : ℕ) (
   enB = prepared wide m i c t p ck .1
 
   kid-live : B .role k ≡ desc
-  kid-live = go (prepared-view wide m i c t p ck k)
-    where
-      go : PrepView A k y Q k (B .role k) → B .role k ≡ desc
-      go (is-P κ e r) = differ (sym (hP wide m i c t p ck κ .in-hand) ∙ sym (ap (A .role) e) ∙ chd wide m i c t p ck .live) (omega arith)
-      go (is-old u r) = r ∙ chd wide m i c t p ck .live
+  kid-live = desc-stays wide m i c t p ck k (chd wide m i c t p ck .live)
 
   -- ---- the three in the list
 
