@@ -6,6 +6,8 @@ use mathlib.Core.List.{List, [], _∷_}
 use Prim.Native.Nat.{ℕ, zero, suc, _≤_}
 use native.Mathlib.Omega.{arith}
 use Rattle.memory.specs.Geometry
+use Rattle.memory.specs.Geometry.{leastPages, mostPages}
+use Rattle.memory.specs.Format.{format}
 use Rattle.memory.specs.Partition
 use Rattle.memory.specs.Tree.{InTree}
 use Rattle.rules.specs.Row.{pass}
@@ -26,15 +28,16 @@ use Rattle.model.specs.Names.{good-page, mapping-is}
 use Rattle.model.specs.Checks.{passed, a-child}
 use Rattle.model.specs.KeepDelete.{deleted}
 use Rattle.model.specs.SoundTree.{in-tree-live}
+use Rattle.model.specs.Formatted.{inv-format}
 use Rattle.model.specs.Step.{inv-step, inv-run}
 use Rattle.model.specs.ChainChecks.{prepare-checks, collect-checks}
 use Rattle.model.specs.ChildPage.{ChildOf, child-of}
 use Rattle.model.specs.Prepare as Prepare
 use Rattle.model.specs.CollectPlace.{found}
 use Rattle.model.specs.CollectThree as Collect
-use Rattle.model.specs.SameChain.{ThreeAt, Spares, SparesAll, SameLater}
+use Rattle.model.specs.SameChain.{ThreeAt, Spares, SparesAll, SameChain, SameLater}
 use Rattle.model.specs.Relink.{collect-chain}
-use Rattle.model.specs.PrepareCollect.{prepare-three}
+use Rattle.model.specs.PrepareCollect.{prepare-three, same-chain}
 use Rattle.model.specs.ThreeCarry.{carry, stay-enter, stay-leave, stay-store, stay-add, stay-remove}
 use Rattle.model.specs.ThreeCreate.{stay-create}
 
@@ -189,3 +192,7 @@ module _ {b : ℕ} (wide : 6 ≤ b) where
       let th = three-run m₁ i₁ _ _ (prepare-three wide m i c t p e) ys s in
       let r = collect-chain wide m₂ (inv-run wide m₁ i₁ ys) c′ t′ p (Conditions.link b m p) (Conditions.link b m (Conditions.link b m p)) e′ (rw (k, q) th) in
       record { answered = r .0; afterwards = r .1 }
+
+  -- from format, and any calls before
+  pub same-chain-run : (n : ℕ) → leastPages ≤ n → n ≤ mostPages b → (ys : List Call) (c t p : ℕ) → refusal b (run b (format b n) ys) (prepare c t p) ≡ 0 → SameChain b (run b (format b n) ys) c t p
+  same-chain-run n l h ys c t p e = same-chain wide _ (inv-run wide (format b n) (inv-format wide n l h) ys) c t p e
