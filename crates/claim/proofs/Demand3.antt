@@ -1,6 +1,6 @@
 -- Demand 3. Assumes an index width of 6 or more.
 use Prim.Native.Nat.{ℕ, _≤_}
-use Rattle.model.specs.Step.{run-sound}
+use Rattle.rules.proofs.steps.Step.{run-sound}
 use Rattle.rules.specs.Conditions.{pagesIn}
 use Rattle.claim.specs.Claim.{Demand3}
 use Rattle.claim.proofs.Barred.{barred}
