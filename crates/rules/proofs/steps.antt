@@ -24,7 +24,9 @@ pub mod ChildPage
 pub mod Prepare
 pub mod ThreePlace
 pub mod DropThree
+pub mod SixWords
 pub mod CollectEffect
+pub mod CollectPlace
 pub mod CollectThree
 pub mod Checks
 pub mod KeepMove
@@ -33,3 +35,9 @@ pub mod KeepCreate
 pub mod KeepDelete
 pub mod Step
 pub mod MappedInChild
+pub mod ThreeHeld
+pub mod Relink
+pub mod PrepareCollect
+pub mod ThreeCarry
+pub mod ThreeCreate
+pub mod ThreeKept

@@ -107,6 +107,8 @@ module _ (b : ℕ) (m : List ℕ) where
   chained p s2 = Conditions.link b m (Conditions.link b m p)
 
   pub record PrepareChecks (c t p : ℕ) : Type 0 where
+    pub c-good : Conditions.badPage b c ≡ false
+    pub t-good : Conditions.badPage b t ≡ false
     pub c-at : PageAddress b c
     pub t-at : PageAddress b t
     pub child : entryAt b m s1 (Partition.current b m) (pageOf b c) ≡ 1
@@ -160,6 +162,8 @@ module _ (b : ℕ) (m : List ℕ) where
       let z′ = false-or (eqb (Conditions.link b m (Conditions.link b m p)) p) _ (z .fresh) in
       let z″ = false-or (eqb (Conditions.link b m (Conditions.link b m p)) (Conditions.link b m p)) _ (z′ .1) in
       record {
+        c-good = a .0;
+        t-good = a′ .0;
         c-at = good-page b c (a .0);
         t-at = good-page b t (a′ .0);
         child = mark-word c (e₃ .0);
