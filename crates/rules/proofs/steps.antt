@@ -17,6 +17,7 @@ pub mod Formatted
 pub mod Unchanged
 pub mod Move
 pub mod Keep
+pub mod Checks
 pub mod ChainChecks
 pub mod ListPage
 pub mod ThreePages
@@ -28,7 +29,6 @@ pub mod SixWords
 pub mod CollectEffect
 pub mod CollectPlace
 pub mod CollectThree
-pub mod Checks
 pub mod KeepMove
 pub mod KeepAdd
 pub mod KeepCreate
