@@ -1,10 +1,9 @@
 -- prepare and collect pass their checks: what the words then say, with virtual pages as numbers.
 use mathlib.Core.Path.{_≡_, refl, sym, ap, _∙_}
 use mathlib.Core.Logic.{_≢_}
-use mathlib.Core.Bool.{Bool, true, false, not, _&&_, _||_, true≢false, false≢true}
+use mathlib.Core.Bool.{Bool, true, false, not, _&&_, false≢true}
 use mathlib.Core.List.{List, [], _∷_, _++_}
 use Prim.Native.Nat.{ℕ, zero, suc, _<_}
-use native.Mathlib.Omega.{arith}
 use borrow.Author.Tests.{eqb-true, eqb-false, leb-false, not-false}
 use lib.Dec.{eqb}
 use lib.ListN.{getD}
@@ -14,7 +13,7 @@ use Rattle.memory.specs.Geometry
 use Rattle.memory.specs.Words as Mem
 use Rattle.memory.specs.Entry.{present, accessible}
 use Rattle.memory.specs.Partition
-use Rattle.rules.specs.Refusal.{Refusal, number, DAMAGED, SIZE, ADDRESS, TWICE, CHILD, RIGHTS, HAND, TABLE, TAKEN, LIST, CHAIN, FULL-TABLE, DEPTH, ROOT, UNMAPPED, KERNEL, SHORT, MAGIC}
+use Rattle.rules.specs.Refusal.{Refusal}
 use Rattle.rules.specs.Row.{Check, _when_, first}
 use Rattle.rules.specs.Call.{prepare, collect}
 use Rattle.rules.specs.Conditions
@@ -24,41 +23,14 @@ use Rattle.rules.proofs.model.Abs.{Kind, pt, s1, s2}
 use Rattle.rules.proofs.model.Read.{tableAt, tablePage, entryAt, rootPage}
 use Rattle.rules.proofs.model.Names.{PageAddress, good-page, lent-is, mapping-is, tableFor-is}
 use Rattle.rules.proofs.steps.Create.{HandW}
+use Rattle.rules.proofs.steps.Checks.{number-nz, false-or, true-and}
 
 -- ---- a row whose first refusal is none
-
-number-nz : (r : Refusal) → number r ≢ 0
-number-nz DAMAGED = omega arith
-number-nz SIZE = omega arith
-number-nz ADDRESS = omega arith
-number-nz TWICE = omega arith
-number-nz CHILD = omega arith
-number-nz RIGHTS = omega arith
-number-nz HAND = omega arith
-number-nz TABLE = omega arith
-number-nz TAKEN = omega arith
-number-nz LIST = omega arith
-number-nz CHAIN = omega arith
-number-nz FULL-TABLE = omega arith
-number-nz DEPTH = omega arith
-number-nz ROOT = omega arith
-number-nz UNMAPPED = omega arith
-number-nz KERNEL = omega arith
-number-nz SHORT = omega arith
-number-nz MAGIC = omega arith
 
 clear : (r : Refusal) (t : Bool) (cs : List Check) → first (r when t ∷ cs) ≡ 0 → (t ≡ false) × (first cs ≡ 0)
 unfolding first
 clear r true cs e = absurd (number-nz r e)
 clear r false cs e = (refl, e)
-
-false-or : (s t : Bool) → (s || t) ≡ false → (s ≡ false) × (t ≡ false)
-false-or true t e = absurd (true≢false e)
-false-or false t e = (refl, e)
-
-true-and : (s t : Bool) → (s && t) ≡ true → (s ≡ true) × (t ≡ true)
-true-and true t e = (refl, e)
-true-and false t e = absurd (false≢true e)
 
 and-false : (s t : Bool) → s ≡ true → (s && t) ≡ false → t ≡ false
 and-false true t e f = f
@@ -107,6 +79,8 @@ module _ (b : ℕ) (m : List ℕ) where
   chained p s2 = Conditions.link b m (Conditions.link b m p)
 
   pub record PrepareChecks (c t p : ℕ) : Type 0 where
+    pub c-good : Conditions.badPage b c ≡ false
+    pub t-good : Conditions.badPage b t ≡ false
     pub c-at : PageAddress b c
     pub t-at : PageAddress b t
     pub child : entryAt b m s1 (Partition.current b m) (pageOf b c) ≡ 1
@@ -160,6 +134,8 @@ module _ (b : ℕ) (m : List ℕ) where
       let z′ = false-or (eqb (Conditions.link b m (Conditions.link b m p)) p) _ (z .fresh) in
       let z″ = false-or (eqb (Conditions.link b m (Conditions.link b m p)) (Conditions.link b m p)) _ (z′ .1) in
       record {
+        c-good = a .0;
+        t-good = a′ .0;
         c-at = good-page b c (a .0);
         t-at = good-page b t (a′ .0);
         child = mark-word c (e₃ .0);

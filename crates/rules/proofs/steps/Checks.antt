@@ -20,7 +20,7 @@ use Rattle.rules.proofs.model.Read.{rootPage, tableAt, entryAt}
 
 -- ---- a row
 
-number-nz : (r : Refusal) → number r ≢ 0
+pub number-nz : (r : Refusal) → number r ≢ 0
 number-nz DAMAGED = omega arith
 number-nz SIZE = omega arith
 number-nz ADDRESS = omega arith

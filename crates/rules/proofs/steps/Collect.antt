@@ -131,7 +131,7 @@ module _ {b : ℕ} (wide : 6 ≤ b) where
         go (off k x y) = absurd (n (ap tag (sym e ∙ y)))
         go (on a y) = (sym y ∙ e, a)
 
-    threes-keep : (d j : ℕ) (x : Three) → ¬ ((d ≡ c) × (j ≡ i)) → threeAt j (A .threes d) ≡ some x → threeAt j (B .threes d) ≡ some x
+    pub threes-keep : (d j : ℕ) (x : Three) → ¬ ((d ≡ c) × (j ≡ i)) → threeAt j (A .threes d) ≡ some x → threeAt j (B .threes d) ≡ some x
     threes-keep d j x n e = go (eqd d c)
       where
         go : Dec (d ≡ c) → threeAt j (B .threes d) ≡ some x

@@ -27,15 +27,15 @@ module _ (b : ℕ) where
   unfoldable pub removed : ℕ → List ℕ → (r₁ r₂ r₃ l : ℕ) → List ℕ → List ℕ
   removed x m r₁ r₂ r₃ l ws = Mem.fill b (put b (put b (put b m r₁ x 0) r₂ x 0) r₃ x 0) l ws
 
-  fill-is : (m : List ℕ) (l : ℕ) (ws : List ℕ) → Mem.fill b m l ws ≡ putL b m l 0 ws
+  pub fill-is : (m : List ℕ) (l : ℕ) (ws : List ℕ) → Mem.fill b m l ws ≡ putL b m l 0 ws
   unfolding Mem.fill putL
   fill-is m l ws = let e : Mem.start b l ≡ Mem.index b l 0 = omega arith in ap (λ (z : ℕ). Mem.overwrite m z ws) e
 
-  page-size : (N : ℕ) (m : List ℕ) (l : ℕ) → Sized b N m → l < N → length (Mem.page b m l) ≡ W b
+  pub page-size : (N : ℕ) (m : List ℕ) (l : ℕ) → Sized b N m → l < N → length (Mem.page b m l) ≡ W b
   unfolding Sized W
   page-size N m l s h = simp (length-take, length-drop) (omega (arith, s, mul-le-mul-right (Geometry.pageWords b) h, suc-mul l (Geometry.pageWords b)))
 
-  page-word : (m : List ℕ) (l y : ℕ) → y < W b → getD (Mem.page b m l) y 0 ≡ word b m l y
+  pub page-word : (m : List ℕ) (l y : ℕ) → y < W b → getD (Mem.page b m l) y 0 ≡ word b m l y
   unfolding word W
   page-word m l y β = getD-take (Geometry.pageWords b) _ y 0 β ∙ getD-drop _ m y 0
 

@@ -17,13 +17,13 @@ use Rattle.rules.proofs.model.Base.{upd-other}
 use Rattle.rules.proofs.model.Words.{addr, word, put, putL, link, link-nz, idx, pageOf}
 use Rattle.rules.proofs.model.Abs.{Kind, pt, s1, s2, hand, blank, desc, Three, Abs, headV, threeAt, WF, Encodes, cell, linkWord}
 use Rattle.rules.proofs.model.Facts.{differ}
-use Rattle.rules.proofs.model.Read.{rootPage, entry-is, root-page, table-word}
+use Rattle.rules.proofs.model.Read.{rootPage, entry-is, root-page, table-word, unmapped}
 use Rattle.rules.proofs.model.Names.{mapping-is}
 use Rattle.rules.proofs.model.Take.{Held, held-one, held-page, view-held}
-use Rattle.rules.proofs.steps.Prep.{PrepPre, newThree, prepA, PrepView, is-P, is-old, view, prep-wf}
+use Rattle.rules.proofs.steps.Prep.{PrepPre, newThree, prepA, PrepView, is-P, is-old, view, threes-keep, threes-new, prep-wf}
 use Rattle.rules.proofs.steps.PrepWords.{six, prepM, prep-words}
 use Rattle.rules.proofs.model.Format.{flat0}
-use Rattle.rules.proofs.model.Inv.{fixed, Inv, moved, live}
+use Rattle.rules.proofs.model.Inv.{fixed, Inv, live}
 use Rattle.rules.proofs.steps.ChainChecks.{chained, PrepareChecks, prepare-checks}
 use Rattle.rules.proofs.steps.ListPage.{list-page, free-is, threes-is}
 use Rattle.rules.proofs.steps.ThreePages.{setThree, on-three, off-three, keep-three, take-three}
@@ -59,16 +59,16 @@ module _ {b : ℕ} (wide : 6 ≤ b) (m : List ℕ) (i : Inv b m) (c t p : ℕ) (
   abbrev o : ℕ
   o = Partition.current b m
 
-  abbrev d : ℕ
+  abbrev pub d : ℕ
   d = Conditions.child b m c
 
-  abbrev x : ℕ
+  abbrev pub x : ℕ
   x = idx b (pageOf b t)
 
   lo : A .role o ≡ desc
   lo = live wide m i
 
-  chd : ChildOf A o d
+  pub chd : ChildOf A o (pageOf b c) d
   chd = child-of wide m i c (ck .c-at) (ck .child)
 
   -- the three pages
@@ -132,7 +132,7 @@ module _ {b : ℕ} (wide : 6 ≤ b) (m : List ℕ) (i : Inv b m) (c t p : ℕ) (
   unfolding effect prepareThree entered put putL addr link idx pageOf rootPage word
   effect-is = refl
 
-  abbrev H : Kind → ℕ
+  abbrev pub H : Kind → ℕ
   H k = addr b (headV (A .chain (P k)))
 
   prep-is : prepM wide N fl f A3 (taken .0) o d x P pre (takeAll b m o (addr b (v pt) ∷ addr b (v s1) ∷ addr b (v s2) ∷ []))
@@ -145,7 +145,7 @@ module _ {b : ℕ} (wide : 6 ≤ b) (m : List ℕ) (i : Inv b m) (c t p : ℕ) (
   unfolding pageOf
   page-is k = ap (pageOf b) (mapping-is b m o (chained b m p k) ∙ entry-is wide N fl A wf f m en pt o (v k) lo (ck .hand k .fits)) ∙ held-page wide N fl f A wf o (v k) (P k) (hP k)
 
-  at-is : (k : Kind) → H k ≡ chained b m p k
+  pub at-is : (k : Kind) → H k ≡ chained b m p k
   at-is k = ap (λ (z : ℕ). addr b z) (ap headV (hP k .is) ∙ hP k .vp) ∙ ck .at k .is
 
   root-is : (k : Kind) → rootPage b m k d ≡ A .rootp k d
@@ -169,6 +169,15 @@ module _ {b : ℕ} (wide : 6 ≤ b) (m : List ℕ) (i : Inv b m) (c t p : ℕ) (
     subst (λ (z : List ℕ). Encodes b N f z preparedA) (sym same) (prep-words wide N fl f A3 (taken .0) o d x P pre _ (taken .1)),
   )
 
+  pub three-there : threeAt x (preparedA .threes d) ≡ some (newThree x P)
+  three-there = threes-new wide N fl A3 (taken .0) o d x P pre
+
+  pub threes-stay : (e j : ℕ) (z : Three) → threeAt j (A .threes e) ≡ some z → threeAt j (preparedA .threes e) ≡ some z
+  threes-stay = threes-keep wide N fl A3 (taken .0) o d x P pre
+
+  pub nothing-there : (z : ℕ) → idx b z ≡ x → preparedA .maps d z ≡ none
+  nothing-there z e = unmapped wide N fl A wf d z (ap (λ (y : ℕ). threeAt y (A .threes d)) e ∙ new)
+
   -- what a page is afterwards: a table of the new three, or what it was
   pub prepared-view : (z : ℕ) → PrepView A d x P z (preparedA .role z)
   prepared-view z = go (view wide N fl A3 (taken .0) o d x P pre z)
@@ -177,18 +186,31 @@ module _ {b : ℕ} (wide : 6 ≤ b) (m : List ℕ) (i : Inv b m) (c t p : ℕ) (
       go (is-P k e r) = is-P k e r
       go (is-old n r) = is-old n (r ∙ off-three A P blank z n)
 
-  prepared-full : (z : ℕ) → preparedA .role z ≢ blank
+  pub desc-stays : (z : ℕ) → A .role z ≡ desc → preparedA .role z ≡ desc
+  desc-stays z e = go (prepared-view z)
+    where
+      go : PrepView A d x P z (preparedA .role z) → preparedA .role z ≡ desc
+      go (is-P k y r) = differ (sym (hP k .in-hand) ∙ sym (ap (A .role) y) ∙ e) (omega arith)
+      go (is-old n r) = r ∙ e
+
+  pub prepared-full : (z : ℕ) → preparedA .role z ≢ blank
   prepared-full z e = go (prepared-view z)
     where
       go : PrepView A d x P z (preparedA .role z) → ⊥
       go (is-P k y r) = differ (sym r ∙ e) (omega arith)
       go (is-old n r) = i .full z (sym r ∙ e)
 
-  pub prepared-inv : Inv b (effect b m (prepare c t p))
-  prepared-inv =
-      moved b i _ preparedA (prepared .0) prepared-full
-      (record { roots = i .root .roots; list = i .root .list; threes = upd-other (A .threes) d (A .threes d ++ newThree x P ∷ []) 1 (chd .below) ∙ i .root .threes })
-      (prepared .1)
+  unfoldable pub prepared-inv : Inv b (effect b m (prepare c t p))
+  prepared-inv = record {
+    N = N;
+    least = i .least;
+    most = i .most;
+    state = preparedA;
+    wf = prepared .0;
+    full = prepared-full;
+    root = record { roots = i .root .roots; list = i .root .list; threes = upd-other (A .threes) d (A .threes d ++ newThree x P ∷ []) 1 (chd .below) ∙ i .root .threes };
+    words = prepared .1;
+  }
 
 module _ {b : ℕ} (wide : 6 ≤ b) (m : List ℕ) (i : Inv b m) where
   pub keep-prepare : (c t p : ℕ) → refusal b m (prepare c t p) ≡ 0 → Inv b (effect b m (prepare c t p))

@@ -1,0 +1,4 @@
+pub mod Twice
+pub mod Create
+pub mod Delete
+pub mod Few

@@ -1,0 +1,15 @@
+use borrow.Author.Needs.{needs}
+use Rattle.making.proofs.groups.frame_at.Statement.{statement}
+use Rattle.making.proofs.groups.frame_at.Tie as tie
+
+mapping-requires : tie.Need-mapping-requires
+mapping-requires c κs = search needs
+
+frame-requires : tie.Need-frame-requires
+frame-requires c κs = search needs
+
+returns : tie.Need-returns
+returns c = cc
+
+pub frame-at-spec : {M : Type 1} → statement M
+frame-at-spec = tie.close (tie.spec mapping-requires frame-requires returns)

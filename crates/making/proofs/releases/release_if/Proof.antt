@@ -1,0 +1,31 @@
+use Rattle.rules.proofs.Releases.{releasing-its, releasing-other}
+use mathlib.Core.Path.{_≡_, sym, _∙_}
+use borrow.Author.Needs.{needs}
+use Rattle.making.proofs.releases.release_if.Statement.{statement}
+use Rattle.making.proofs.releases.release_if.Tie as tie
+
+lent-requires : tie.Need-lent-requires
+lent-requires c κs = search needs
+
+release-requires : tie.Need-release-requires
+release-requires c κs = search needs
+
+same-length : tie.Need-same-length
+same-length c = search needs
+
+returns : tie.Need-returns
+returns c =
+    let s = c .before .before .before .before .before .before .before .before .args in
+    cc (releasing-its (s .b) (s .m .now) (s .d .0) (s .a) (s .c) (cc))
+
+same-length-2 : tie.Need-same-length-2
+same-length-2 c = search needs
+
+returns-2 : tie.Need-returns-2
+returns-2 c =
+    let s = c .before .before .before .before .args in
+    sym (releasing-other (s .b) (s .m .now) (s .d .0) (s .a) (s .c) (λ e. c .if1 .left (cc)))
+
+pub release-if-spec : {M : Type 1} → statement M
+release-if-spec =
+    tie.close (tie.spec lent-requires release-requires same-length returns same-length-2 returns-2)

@@ -1,0 +1,85 @@
+// Pages that partition d lent to the child at address c are its own again.
+use pages::PhysicalPage;
+use pages::VirtualPage;
+ghost use mathlib.Core.Path.{_≡_};
+ghost use mathlib.Core.Bool.{cond};
+ghost use Prim.Native.Nat.{_+_, _*_, _<_, _≤_};
+ghost use lib.Dec.{eqb};
+ghost use Rattle.memory.specs.Geometry.{pageWords, address};
+ghost use Rattle.memory.specs.Partition.{lent};
+ghost use Rattle.rules.specs.Effects;
+ghost use Rattle.rules.specs.Effects.{releaseAll};
+ghost use Rattle.pages.specs.Width.{Width};
+
+// "every lent page that is inaccessible" is returned, "other lent pages keep their words".
+fn release(b: u32, m: &mut [u32], d: PhysicalPage, a: u32)
+    requires { ⌜ Width b ⌝ }
+    ensures { λ r. ⌜ now (m .exit) ≡ Effects.release b (now (m .entry)) (d .0) a ⌝ }
+{
+    let w = pages::mapping(b, m, d, a);
+    pages::set_lent(b, m, d, a, 0);
+    if pages::accessible(w) == 0 {
+        moves::return_page(b, m, d, a);
+    }
+}
+
+// The page at address a, if it is lent to the child at c.
+fn release_if(b: u32, m: &mut [u32], d: PhysicalPage, c: u32, a: u32)
+    requires { ⌜ Width b ⌝ }
+    ensures { λ r. ⌜ now (m .exit) ≡ cond (eqb (lent b (now (m .entry)) (d .0) a) c) (Effects.release b (now (m .entry)) (d .0) a) (now (m .entry)) ⌝ }
+{
+    if pages::lent(b, m, d, a) == c {
+        release(b, m, d, a);
+    }
+}
+
+// Where virtual page v starts.
+fn start_of(b: u32, v: VirtualPage) -> u32
+    requires { ⌜ Width b ⌝ }
+    requires fits { ⌜ address b (v .0) < 4294967296 ⌝ }
+    ensures { λ r. ⌜ r ≡ address b (v .0) ⌝ }
+{
+    v.0 * pages::page_bytes(b)
+}
+
+// The n virtual pages from page v on.
+fn release_run(b: u32, m: &mut [u32], d: PhysicalPage, c: u32, v: VirtualPage, n: u32)
+    requires { ⌜ Width b ⌝ }
+    requires inside { ⌜ v .0 + n ≤ pageWords b * pageWords b ⌝ }
+    ensures { λ r. ⌜ now (m .exit) ≡ releaseAll b n (v .0) (now (m .entry)) (d .0) c ⌝ }
+{
+    let first = v.0;
+    let mut k = 0;
+    while k < n {
+        release_if(b, m, d, c, start_of(b, VirtualPage(first + k)));
+        k += 1;
+    }
+}
+
+// The virtual pages of directory index i, if there is a table.
+fn release_table(b: u32, m: &mut [u32], d: PhysicalPage, c: u32, i: u32)
+    requires { ⌜ Width b ⌝ }
+    requires inside { ⌜ (i < pageWords b) × (0 < c) ⌝ }
+    ensures { λ r. ⌜ now (m .exit) ≡ releaseAll b (pageWords b) (i * pageWords b) (now (m .entry)) (d .0) c ⌝ }
+{
+    let s = pages::shadow1(b, m, d);
+    if pages::read_word(b, m, s, i) == 0 {
+        return;
+    }
+    let w = pages::page_words(b);
+    release_run(b, m, d, c, VirtualPage(i * w), w);
+}
+
+// All pages lent to the child at c. Only tables that exist are looked at.
+pub fn release_all(b: u32, m: &mut [u32], d: PhysicalPage, c: u32)
+    requires { ⌜ Width b ⌝ }
+    requires some { ⌜ 0 < c ⌝ }
+    ensures { λ r. ⌜ now (m .exit) ≡ releaseAll b (pageWords b * pageWords b) 0 (now (m .entry)) (d .0) c ⌝ }
+{
+    let w = pages::page_words(b);
+    let mut i = 0;
+    while i < w {
+        release_table(b, m, d, c, i);
+        i += 1;
+    }
+}
