@@ -2,10 +2,10 @@
 use crate::stubs;
 use answers::Answer;
 ghost use mathlib.Core.Path.{_≡_};
-ghost use lib.ListN.{getD};
 ghost use Rattle.rules.specs.Call;
 ghost use Rattle.rules.specs.Calls.{answer, after};
 ghost use Rattle.answers.specs.Said.{said};
+ghost use Rattle.making.specs.Group.{creating};
 
 pub fn format(m: &mut [u32]) -> Answer
     ensures { λ r. ⌜ (said r ≡ answer 6 (now (m .entry)) Call.formatAll) × (now (m .exit) ≡ after 6 (now (m .entry)) Call.formatAll) ⌝ }
@@ -15,11 +15,11 @@ pub fn format(m: &mut [u32]) -> Answer
 }
 
 pub fn create_partition(m: &mut [u32], five: [u32; 5]) -> Answer
-    ensures { λ r. ⌜ (said r ≡ answer 6 (now (m .entry)) (Call.createPartition (getD five 0 0) (getD five 1 0) (getD five 2 0) (getD five 3 0) (getD five 4 0))) × (now (m .exit) ≡ after 6 (now (m .entry)) (Call.createPartition (getD five 0 0) (getD five 1 0) (getD five 2 0) (getD five 3 0) (getD five 4 0))) ⌝ }
+    ensures { λ r. ⌜ (said r ≡ answer 6 (now (m .entry)) (creating five)) × (now (m .exit) ≡ after 6 (now (m .entry)) (creating five)) ⌝ }
 {
     let b = pages::width();
     let good = stubs::is_sound(m);
-    stubs::create_partition(b, m, good, five)
+    making::create_partition(b, m, good, five)
 }
 
 pub fn delete_partition(m: &mut [u32], c: u32) -> Answer
@@ -27,7 +27,7 @@ pub fn delete_partition(m: &mut [u32], c: u32) -> Answer
 {
     let b = pages::width();
     let good = stubs::is_sound(m);
-    stubs::delete_partition(b, m, good, c)
+    making::delete_partition(b, m, good, c)
 }
 
 pub fn add_vaddr(m: &mut [u32], page: u32, child: u32, target: u32, rights: u32) -> Answer

@@ -1,7 +1,6 @@
 // Stand-ins.
 use answers::Answer;
 ghost use mathlib.Core.Path.{_≡_};
-ghost use lib.ListN.{getD};
 ghost use Rattle.soundness.specs.Test.{soundTest};
 ghost use Rattle.rules.specs.Call;
 ghost use Rattle.rules.specs.Calls.{answer, after};
@@ -17,22 +16,6 @@ pub fn is_sound(m: &[u32]) -> bool
 pub fn format(b: u32, m: &mut [u32]) -> Answer
     requires { ⌜ Width b ⌝ }
     ensures { λ r. ⌜ (said r ≡ answer b (now (m .entry)) Call.formatAll) × (now (m .exit) ≡ after b (now (m .entry)) Call.formatAll) ⌝ }
-{
-    Answer::Done(0)
-}
-
-pub fn create_partition(b: u32, m: &mut [u32], good: bool, five: [u32; 5]) -> Answer
-    requires { ⌜ Width b ⌝ }
-    requires judged { ⌜ good ≡ soundTest b (now m) ⌝ }
-    ensures { λ r. ⌜ (said r ≡ answer b (now (m .entry)) (Call.createPartition (getD five 0 0) (getD five 1 0) (getD five 2 0) (getD five 3 0) (getD five 4 0))) × (now (m .exit) ≡ after b (now (m .entry)) (Call.createPartition (getD five 0 0) (getD five 1 0) (getD five 2 0) (getD five 3 0) (getD five 4 0))) ⌝ }
-{
-    Answer::Done(0)
-}
-
-pub fn delete_partition(b: u32, m: &mut [u32], good: bool, c: u32) -> Answer
-    requires { ⌜ Width b ⌝ }
-    requires judged { ⌜ good ≡ soundTest b (now m) ⌝ }
-    ensures { λ r. ⌜ (said r ≡ answer b (now (m .entry)) (Call.deletePartition c)) × (now (m .exit) ≡ after b (now (m .entry)) (Call.deletePartition c)) ⌝ }
 {
     Answer::Done(0)
 }
