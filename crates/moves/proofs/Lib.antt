@@ -1,0 +1,4 @@
+pub mod Walks
+pub mod Groups
+pub mod Tests
+pub mod Whole

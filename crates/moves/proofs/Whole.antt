@@ -1,0 +1,38 @@
+-- A whole call from its two parts: n is the number of the refusal that the first part found, and the second part made the effect. Assumes nothing.
+use mathlib.Core.Path.{_≡_, refl, sym, ap, ap₂, _∙_}
+use mathlib.Core.Logic.{_≢_}
+use mathlib.Core.List.{List}
+use Prim.Native.Nat.{ℕ, zero, suc}
+use Rattle.rules.specs.Row.{reply, pass}
+use Rattle.rules.specs.Call.{Call}
+use Rattle.rules.specs.Refusals.{refusal}
+use Rattle.rules.specs.Effects.{effect}
+use Rattle.rules.specs.Calls.{result, answer, after}
+
+kept : (n : ℕ) (x y : List ℕ) → n ≢ 0 → y ≡ pass n x y
+unfolding pass
+kept zero x y h = absurd (h refl)
+kept (suc n) x y h = refl
+
+-- the word of a refused call does not matter
+worded : (n x y : ℕ) → n ≢ 0 → reply n x ≡ reply n y
+unfolding reply
+worded zero x y h = absurd (h refl)
+worded (suc n) x y h = refl
+
+module _ (b : ℕ) (m : List ℕ) (c : Call) (n : ℕ) (e : n ≡ refusal b m c) where
+  pub answer-refused : (x : ℕ) → n ≢ 0 → reply n x ≡ answer b m c
+  unfolding answer
+  answer-refused x h = worded n x (result b m c) h ∙ ap (λ (k : ℕ). reply k (result b m c)) e
+
+  pub after-refused : n ≢ 0 → m ≡ after b m c
+  unfolding after
+  after-refused h = kept n (effect b m c) m h ∙ ap (λ (k : ℕ). pass k (effect b m c) m) e
+
+  pub answer-done : (x : ℕ) → x ≡ result b m c → n ≡ 0 → reply 0 x ≡ answer b m c
+  unfolding answer
+  answer-done x w h = ap₂ reply (sym h ∙ e) w
+
+  pub after-done : n ≡ 0 → effect b m c ≡ after b m c
+  unfolding after pass
+  after-done h = ap (λ (k : ℕ). pass k (effect b m c) m) (sym h ∙ e)

@@ -1,0 +1,18 @@
+use borrow.Author.Needs.{needs}
+use Rattle.moves.proofs.conditions.lacks.Statement.{statement}
+use Rattle.moves.proofs.conditions.lacks.Tie as tie
+
+current-requires : tie.Need-current-requires
+current-requires c κs = search needs
+
+mapping-requires : tie.Need-mapping-requires
+mapping-requires c κs = search needs
+
+has-rights-requires : tie.Need-has-rights-requires
+has-rights-requires c κs = search needs
+
+returns : tie.Need-returns
+returns c = cc
+
+pub lacks-spec : {M : Type 1} → statement M
+lacks-spec = tie.close (tie.spec current-requires mapping-requires has-rights-requires returns)

@@ -1,0 +1,12 @@
+use borrow.Author.Needs.{needs}
+use Rattle.moves.proofs.conditions.no_three.Statement.{statement}
+use Rattle.moves.proofs.conditions.no_three.Tie as tie
+
+table-for-requires : tie.Need-table-for-requires
+table-for-requires c κs = search needs
+
+returns : tie.Need-returns
+returns c = cc
+
+pub no-three-spec : {M : Type 1} → statement M
+no-three-spec = tie.close (tie.spec table-for-requires returns)

@@ -1,0 +1,12 @@
+use borrow.Author.Needs.{needs}
+use Rattle.moves.proofs.conditions.unmapped.Statement.{statement}
+use Rattle.moves.proofs.conditions.unmapped.Tie as tie
+
+mapping-requires : tie.Need-mapping-requires
+mapping-requires c κs = search needs
+
+returns : tie.Need-returns
+returns c = cc
+
+pub unmapped-spec : {M : Type 1} → statement M
+unmapped-spec = tie.close (tie.spec mapping-requires returns)

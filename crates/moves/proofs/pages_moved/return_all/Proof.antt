@@ -1,0 +1,70 @@
+use mathlib.Core.List.{List}
+use mathlib.Core.Path.{_≡_, refl, sym, ap, _∙_}
+use Prim.Native.Nat.{ℕ, _+_, _-_, _≤_}
+use Rattle.rules.proofs.Releases.{returnAll-more, returnAll-end}
+use Rattle.rules.specs.Moves.{returnAll}
+use lib.ListN.{length, drop}
+use native.Mathlib.Omega.{arith}
+use borrow.Author.Needs.{needs}
+use Rattle.moves.proofs.pages_moved.return_all.Statement.{statement}
+use Rattle.moves.proofs.pages_moved.return_all.Tie as tie
+
+abbrev Inv-loop : tie.InvT-loop
+Inv-loop b m₀ d vs i₀ m i = (returnAll b m (d .0) (drop i vs) ≡ returnAll b m₀ (d .0) vs) × (i ≤ length vs) × (length m ≡ length m₀)
+
+abbrev μ-loop : tie.MeasureT-loop
+μ-loop b m₀ d vs i₀ m i = length vs - i
+
+loop-holds : tie.Need-loop-holds Inv-loop μ-loop
+loop-holds c = (refl, search needs, search needs)
+
+mul-return-page : tie.Need-mul-return-page Inv-loop μ-loop
+mul-return-page c = search needs
+
+shared-slice-read-return-page : tie.Need-shared-slice-read-return-page Inv-loop μ-loop
+shared-slice-read-return-page c = search needs
+
+return-page-requires : tie.Need-return-page-requires Inv-loop μ-loop
+return-page-requires c κs = search needs
+
+add-i : tie.Need-add-i Inv-loop μ-loop
+add-i c = search needs
+
+loop-less : tie.Need-loop-less Inv-loop μ-loop
+loop-less c = search needs
+
+loop-again : tie.Need-loop-again Inv-loop μ-loop
+loop-again c =
+    let s = c .before .before .before .before .before .before .before .before .before .args in
+    let p = c .before .before .before .before .before .before .loop in (
+      ap (λ (x : List ℕ). returnAll (s .b) x (s .d .0) (drop (p .i + 1) (s .vs .now))) (c .before .before .return-page .ensures)
+          ∙ sym (returnAll-more (s .b) (p .m) (s .d .0) (s .vs .now) (p .i) (omega arith))
+          ∙ p .inv .0,
+      omega arith,
+      omega arith,
+    )
+
+same-length : tie.Need-same-length Inv-loop μ-loop
+same-length c = search needs
+
+returns : tie.Need-returns Inv-loop μ-loop
+returns c =
+    let s = c .before .before .before .before .args in
+    let p = c .before .loop in
+    sym (returnAll-end (s .b) (p .m) (s .d .0) (s .vs .now) (p .i) (omega arith)) ∙ p .inv .0
+
+pub return-all-spec : {M : Type 1} → statement M
+return-all-spec =
+    tie.close
+    (tie.spec
+    Inv-loop
+    μ-loop
+    loop-holds
+    mul-return-page
+    shared-slice-read-return-page
+    return-page-requires
+    add-i
+    loop-less
+    loop-again
+    same-length
+    returns)

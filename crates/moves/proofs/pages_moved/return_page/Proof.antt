@@ -1,0 +1,20 @@
+use Rattle.rules.specs.Moves.{returnPage}
+use borrow.Author.Needs.{needs}
+use Rattle.moves.proofs.pages_moved.return_page.Statement.{statement}
+use Rattle.moves.proofs.pages_moved.return_page.Tie as tie
+
+wipe-at-requires : tie.Need-wipe-at-requires
+wipe-at-requires c κs = search needs
+
+mark-requires : tie.Need-mark-requires
+mark-requires c κs = search needs
+
+same-length : tie.Need-same-length
+same-length c = search needs
+
+returns : tie.Need-returns
+unfolding returnPage
+returns c = cc
+
+pub return-page-spec : {M : Type 1} → statement M
+return-page-spec = tie.close (tie.spec wipe-at-requires mark-requires same-length returns)
