@@ -24,13 +24,12 @@ fn descriptor_word(b: u32, i: u32) -> u32
     requires { ⌜ Width b ⌝ }
     ensures { λ r. ⌜ r ≡ rootDescriptorWord b i ⌝ }
 {
-    if i % 2 == 0 {
-        return 0;
-    }
-    if i > 9 {
-        return 0;
-    }
-    page_address(b, i / 2 + 1)
+    let d = page_address(b, 1);
+    let t = page_address(b, 2);
+    let s1 = page_address(b, 3);
+    let s2 = page_address(b, 4);
+    let l = page_address(b, 5);
+    pages::read(&[0, d, 0, t, 0, s1, 0, s2, 0, l, 0, 0], i as usize)
 }
 
 // "word i is 0 or a table's physical address + 1": k is 0 for the directory, 1 and 2 for the shadows.
@@ -80,7 +79,7 @@ fn table_word(b: u32, n: u32, t: u32, v: u32) -> u32
     pages::entry_of(b, page_address(b, 5 + 3 * t + v), 1, 7)
 }
 
-// Word i of page p.
+// Word i of a page.
 pub fn format_word(b: u32, n: u32, t: u32, page: PhysicalPage, i: u32) -> u32
     requires { ⌜ Width b ⌝ }
     requires threes { ⌜ (t ≡ threesFor b n) × (t ≤ 6144) ⌝ }
