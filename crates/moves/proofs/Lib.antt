@@ -2,3 +2,4 @@ pub mod Walks
 pub mod Groups
 pub mod Tests
 pub mod Whole
+pub mod Parts

@@ -2,6 +2,7 @@
 pub mod ancestors;
 pub mod conditions;
 pub mod pages_moved;
+pub mod saved;
 
 pub use ancestors::depth;
 pub use ancestors::mark;
@@ -18,3 +19,4 @@ pub use pages_moved::return_all;
 pub use pages_moved::return_page;
 pub use pages_moved::take_all;
 pub use pages_moved::take_page;
+pub use saved::save;
