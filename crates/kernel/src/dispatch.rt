@@ -10,7 +10,7 @@ ghost use Rattle.answers.specs.Said.{said};
 ghost use Rattle.kernel.specs.Sequence.{numbered, five, callAt, packed};
 
 // The call of number n: 0 is format, 1 to 12 are document 01's. a holds its arguments.
-fn by_number(m: &mut [u32], n: u32, a: [u32; 5]) -> Answer
+pub fn by_number(m: &mut [u32], n: u32, a: [u32; 5]) -> Answer
     ensures { λ r. ⌜ (said r ≡ answer 6 (now (m .entry)) (numbered n (λ j. getD a j 0))) × (now (m .exit) ≡ after 6 (now (m .entry)) (numbered n (λ j. getD a j 0))) ⌝ }
 {
     match n {
