@@ -1,0 +1,4 @@
+// "When memory is sound": a judgement of any lent memory. It reads words only, and each test is one of the crates soundness and judging.
+pub mod addresses;
+pub mod forms;
+pub mod roots;
