@@ -1,2 +1,4 @@
 pub mod Tests
+pub mod Loops
 pub mod Forms
+pub mod Formatted

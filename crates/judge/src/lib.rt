@@ -1,4 +1,8 @@
 // "When memory is sound": a judgement of any lent memory. It reads words only, and each test is one of the crates soundness and judging.
 pub mod addresses;
+pub mod children;
+pub mod formatted;
 pub mod forms;
+pub mod questions;
 pub mod roots;
+pub mod threes;

@@ -1,7 +1,9 @@
 // The words of a partition's directory, shadows and list, and the pairs of its descriptor and its list.
 use pages::PhysicalPage;
 use pages::directory;
+use pages::index;
 use pages::list;
+use pages::read;
 use pages::read_word;
 use pages::shadow1;
 use pages::shadow2;
@@ -32,11 +34,13 @@ pub fn shadow2_word(b: u32, m: &[u32], d: PhysicalPage, i: u32) -> u32
     read_word(b, m, shadow2(b, m, d), i)
 }
 
-pub fn list_word(b: u32, m: &[u32], d: PhysicalPage, i: u32) -> u32
+// Its index is worked out in 64 bits, since a list's first word may be any number.
+pub fn list_word(b: u32, m: &[u32], d: PhysicalPage, i: usize) -> u32
     requires { ⌜ Width b ⌝ }
+    requires small { ⌜ i < 34359738368 ⌝ }
     ensures { λ r. ⌜ r ≡ word b (now (m .entry)) (Partition.list b (now (m .entry)) (d .0)) i ⌝ }
 {
-    read_word(b, m, list(b, m, d), i)
+    read(m, index(b, list(b, m, d), 0) + i)
 }
 
 // "pairs of virtual address in the parent and physical address"
@@ -45,7 +49,7 @@ pub struct Pair(pub u32, pub u32);
 // Pair j of d's descriptor.
 pub fn descriptor_pair(b: u32, m: &[u32], d: PhysicalPage, j: u32) -> Pair
     requires { ⌜ Width b ⌝ }
-    requires few { ⌜ j < 1024 ⌝ }
+    requires small { ⌜ j < 1024 ⌝ }
     ensures { λ r. ⌜ (r .0 ≡ word b (now (m .entry)) (d .0) (2 * j)) × (r .1 ≡ word b (now (m .entry)) (d .0) (2 * j + 1)) ⌝ }
 {
     Pair(read_word(b, m, d, 2 * j), read_word(b, m, d, 2 * j + 1))
@@ -54,7 +58,6 @@ pub fn descriptor_pair(b: u32, m: &[u32], d: PhysicalPage, j: u32) -> Pair
 // Pair j of d's list.
 pub fn list_pair(b: u32, m: &[u32], d: PhysicalPage, j: u32) -> Pair
     requires { ⌜ Width b ⌝ }
-    requires few { ⌜ j < 1024 ⌝ }
     ensures {
         λ r.
         ⌜
@@ -63,5 +66,6 @@ pub fn list_pair(b: u32, m: &[u32], d: PhysicalPage, j: u32) -> Pair
         ⌝
     }
 {
-    Pair(list_word(b, m, d, 1 + 2 * j), list_word(b, m, d, 2 + 2 * j))
+    let i = 2 * (j as usize);
+    Pair(list_word(b, m, d, 1 + i), list_word(b, m, d, 2 + i))
 }

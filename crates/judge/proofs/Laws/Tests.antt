@@ -22,6 +22,9 @@ module _ {x y u v : ℕ} (e : x ≡ u) (q : y ≡ v) where
   pub same-eqb : eqb x y ≡ eqb u v
   same-eqb = rw (e, q)
 
+  pub same-leb : leb x y ≡ leb u v
+  same-leb = rw (e, q)
+
   pub same-ltb : ltb x y ≡ ltb u v
   same-ltb = rw (e, q)
 
