@@ -2,3 +2,4 @@ pub mod Tests
 pub mod Loops
 pub mod Forms
 pub mod Formatted
+pub mod Whole

@@ -1,8 +1,5 @@
 // "the words have the forms above": the words of a directory and of the tables.
 use crate::addresses::in_memory;
-use crate::addresses::physical_address;
-use crate::addresses::virtual_address;
-use crate::roots::Pair;
 use crate::roots::directory_word;
 use crate::roots::shadow1_word;
 use crate::roots::shadow2_word;
@@ -12,21 +9,9 @@ use pages::entry_of;
 use pages::frame;
 use pages::rights;
 ghost use mathlib.Core.Path.{_≡_};
-ghost use mathlib.Core.Bool.{_&&_};
-ghost use Rattle.soundness.specs.Test.{virtual, physical, tableLink, directoryTest};
+ghost use Rattle.soundness.specs.Test.{tableLink, directoryTest};
 ghost use Rattle.judging.specs.Quick.{entryTest};
 ghost use Rattle.pages.specs.Width.{Width};
-
-// A pair of a virtual and a physical address.
-pub fn pair_form(b: u32, m: &[u32], p: Pair) -> bool
-    requires { ⌜ Width b ⌝ }
-    ensures { λ r. ⌜ r ≡ virtual b (p .0) && physical b (now (m .entry)) (p .1) ⌝ }
-{
-    if !virtual_address(b, p.0) {
-        return false;
-    }
-    physical_address(b, m, p.1)
-}
 
 // "0 or a table's physical address + 1"
 pub fn table_link(b: u32, m: &[u32], w: u32) -> bool

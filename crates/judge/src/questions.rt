@@ -1,23 +1,26 @@
 // What is asked at each index of a page or at each pair of a descriptor or a list: one loop for all of it.
-use crate::children::agrees;
-use crate::children::shut_at;
 use crate::formatted::root_descriptor_word;
 use crate::formatted::root_directory_word;
 use crate::formatted::root_list_word;
 use crate::forms::directory_test;
-use crate::forms::pair_form;
-use crate::roots::descriptor_pair;
-use crate::roots::list_pair;
+use crate::pairs::agrees;
+use crate::pairs::descriptor_pair;
+use crate::pairs::list_pair;
+use crate::pairs::pair_form;
+use crate::pairs::shut_at;
 use crate::threes::index_once;
 use crate::threes::three_once;
 use pages::PhysicalPage;
+use pages::page_words;
 use pages::pages;
 use pages::read_word;
+use pages::threes;
 ghost use mathlib.Core.Path.{_≡_};
 ghost use mathlib.Core.Bool.{not, _||_};
-ghost use Prim.Native.Nat.{_+_, _≤_, _<_};
+ghost use Prim.Native.Nat.{_+_, _*_, _≤_, _<_};
 ghost use lib.Dec.{leb, eqb};
 ghost use Rattle.walk.specs.Finite.{from, all};
+ghost use Rattle.memory.specs.Geometry.{pageWords, mostThrees};
 ghost use Rattle.memory.specs.Words.{word};
 ghost use Rattle.memory.specs.Partition;
 ghost use Rattle.memory.specs.Format.{rootDescriptorWord, rootDirectoryWord, rootListWord};
@@ -125,4 +128,21 @@ pub fn each(b: u32, m: &[u32], q: Question, n: u32) -> bool
         i += 1;
     }
     true
+}
+
+// The answer is yes at each word of a page.
+pub fn each_word(b: u32, m: &[u32], q: Question) -> bool
+    requires { ⌜ Width b ⌝ }
+    ensures { λ r. ⌜ r ≡ all (asked q b (now (m .entry))) (from (pageWords b) 0) ⌝ }
+{
+    each(b, m, q, page_words(b))
+}
+
+// The answer is yes at each pair of d's list, of which there are few enough.
+pub fn each_pair(b: u32, m: &[u32], q: Question, d: PhysicalPage) -> bool
+    requires { ⌜ Width b ⌝ }
+    requires few { ⌜ Partition.threes b (now m) (d .0) ≤ mostThrees ⌝ }
+    ensures { λ r. ⌜ r ≡ all (asked q b (now (m .entry))) (from (3 * Partition.threes b (now (m .entry)) (d .0)) 0) ⌝ }
+{
+    each(b, m, q, 3 * threes(b, m, d))
 }

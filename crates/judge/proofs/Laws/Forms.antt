@@ -32,3 +32,9 @@ word-by-index b m {i = i} {q = q} j e f g =
     let k : i ≡ index b q 0 = f ∙ ap (λ (x : ℕ). index b x 0) g in
     let l : i + j ≡ index b q j = omega arith in
     e ∙ ap (λ (x : ℕ). getD m x 0) l
+
+-- the words of n pages
+pub pages-long : (b : ℕ) {i p n : ℕ} → i ≡ index b p 0 → p ≡ n → i ≡ n * pageWords b
+pages-long b {i = i} {n = n} e q =
+    let k : i ≡ index b n 0 = e ∙ ap (λ (x : ℕ). index b x 0) q in
+    omega arith

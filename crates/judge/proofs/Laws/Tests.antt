@@ -32,3 +32,7 @@ module _ {x y u v : ℕ} (e : x ≡ u) (q : y ≡ v) where
 pub and-false : (f : Bool) → f && false ≡ false
 and-false true = refl
 and-false false = refl
+
+pub and-true : (f : Bool) → f && true ≡ f
+and-true true = refl
+and-true false = refl

@@ -5,16 +5,16 @@ use Rattle.judge.proofs.questions.holds.Statement.{statement}
 use Rattle.judge.proofs.questions.holds.Tie as tie
 use Rattle.judge.proofs.questions.holds.Reads as reads
 use Rattle.judge.proofs.questions.holds.Lts as lts
-use Rattle.judge.proofs.children.agrees.Reads as agrees-reads
-use Rattle.judge.proofs.children.shut_at.Reads as shut-at-reads
+use Rattle.judge.proofs.pairs.agrees.Reads as agrees-reads
+use Rattle.judge.proofs.pairs.shut_at.Reads as shut-at-reads
 use Rattle.judge.proofs.forms.directory_test.Reads as directory-test-reads
-use Rattle.judge.proofs.forms.pair_form.Reads as pair-form-reads
+use Rattle.judge.proofs.pairs.pair_form.Reads as pair-form-reads
 use Rattle.judge.proofs.questions.root_descriptor.Reads as root-descriptor-reads
 use Rattle.judge.proofs.questions.root_directory.Reads as root-directory-reads
 use Rattle.judge.proofs.questions.root_list.Reads as root-list-reads
 use Rattle.judge.proofs.questions.zero_from.Reads as zero-from-reads
-use Rattle.judge.proofs.roots.descriptor_pair.Reads as descriptor-pair-reads
-use Rattle.judge.proofs.roots.list_pair.Reads as list-pair-reads
+use Rattle.judge.proofs.pairs.descriptor_pair.Reads as descriptor-pair-reads
+use Rattle.judge.proofs.pairs.list_pair.Reads as list-pair-reads
 use Rattle.judge.proofs.threes.index_once.Reads as index-once-reads
 use Rattle.judge.proofs.threes.three_once.Reads as three-once-reads
 

@@ -4,10 +4,10 @@ use Rattle.memory.specs.Geometry.{address, pageOf}
 use Rattle.soundness.specs.Test.{agrees}
 use Rattle.judge.proofs.Laws.Tests.{unequal, equal, same-eqb}
 use borrow.Author.Needs.{needs}
-use Rattle.judge.proofs.children.agrees.Statement.{statement}
-use Rattle.judge.proofs.children.agrees.Tie as tie
-use Rattle.judge.proofs.children.agrees.Reads as reads
-use Rattle.judge.proofs.children.agrees.Lts as lts
+use Rattle.judge.proofs.pairs.agrees.Statement.{statement}
+use Rattle.judge.proofs.pairs.agrees.Tie as tie
+use Rattle.judge.proofs.pairs.agrees.Reads as reads
+use Rattle.judge.proofs.pairs.agrees.Lts as lts
 use Rattle.pages.proofs.frame.Reads as frame-reads
 use Rattle.pages.proofs.mapping.Reads as mapping-reads
 

@@ -3,10 +3,10 @@ use Rattle.memory.specs.Entry.{accessible}
 use Rattle.soundness.specs.Test.{shutAt}
 use Rattle.judge.proofs.Laws.Tests.{unequal, equal, same-leb}
 use borrow.Author.Needs.{needs}
-use Rattle.judge.proofs.children.shut_at.Statement.{statement}
-use Rattle.judge.proofs.children.shut_at.Tie as tie
-use Rattle.judge.proofs.children.shut_at.Reads as reads
-use Rattle.judge.proofs.children.shut_at.Lts as lts
+use Rattle.judge.proofs.pairs.shut_at.Statement.{statement}
+use Rattle.judge.proofs.pairs.shut_at.Tie as tie
+use Rattle.judge.proofs.pairs.shut_at.Reads as reads
+use Rattle.judge.proofs.pairs.shut_at.Lts as lts
 use Rattle.pages.proofs.accessible.Reads as accessible-reads
 use Rattle.pages.proofs.lent.Reads as lent-reads
 use Rattle.pages.proofs.mapping.Reads as mapping-reads

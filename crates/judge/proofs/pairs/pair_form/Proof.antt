@@ -1,9 +1,9 @@
 use Rattle.judge.proofs.Laws.Tests.{yes, no}
 use borrow.Author.Needs.{needs}
-use Rattle.judge.proofs.forms.pair_form.Statement.{statement}
-use Rattle.judge.proofs.forms.pair_form.Tie as tie
-use Rattle.judge.proofs.forms.pair_form.Reads as reads
-use Rattle.judge.proofs.forms.pair_form.Lts as lts
+use Rattle.judge.proofs.pairs.pair_form.Statement.{statement}
+use Rattle.judge.proofs.pairs.pair_form.Tie as tie
+use Rattle.judge.proofs.pairs.pair_form.Reads as reads
+use Rattle.judge.proofs.pairs.pair_form.Lts as lts
 use Rattle.judge.proofs.addresses.physical_address.Reads as physical-address-reads
 use Rattle.judge.proofs.addresses.virtual_address.Reads as virtual-address-reads
 
