@@ -1,5 +1,6 @@
 // "When memory is sound": a judgement of any lent memory. It reads words only, and each test is one of the crates soundness and judging.
 pub mod addresses;
+pub mod cells;
 pub mod children;
 pub mod formatted;
 pub mod forms;
@@ -9,4 +10,5 @@ pub mod partitions;
 pub mod questions;
 pub mod root;
 pub mod roots;
+pub mod search;
 pub mod threes;
