@@ -6,3 +6,5 @@ pub mod Whole
 pub mod Cells
 pub mod Numbers
 pub mod Search
+pub mod Counts
+pub mod Marks

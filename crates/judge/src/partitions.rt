@@ -1,20 +1,30 @@
-// What the descriptor, the directory, the shadows and the list of a partition are asked by themselves.
+// What a partition is asked before its pages are marked.
 use crate::addresses::physical_address;
+use crate::counts::due_count;
+use crate::counts::shut_count;
 use crate::questions::Question;
 use crate::questions::each;
 use crate::questions::each_pair;
 use crate::questions::each_word;
 use crate::roots::list_word;
+use crate::search::Ask;
+use crate::search::next;
+use crate::search::virtual_pages;
 use pages::PhysicalPage;
+use pages::VirtualPage;
 use pages::list;
+use pages::mapping;
 use pages::read_word;
 use pages::threes;
 ghost use mathlib.Core.Path.{_≡_};
+ghost use mathlib.Core.Bool.{_&&_};
 ghost use Prim.Native.Nat.{_≤_};
 ghost use Rattle.walk.specs.Finite.{from, all};
 ghost use Rattle.memory.specs.Geometry.{pageWords, mostThrees};
 ghost use Rattle.memory.specs.Partition;
+ghost use Rattle.memory.specs.Counts.{tabled};
 ghost use Rattle.soundness.specs.Test.{descriptorTest, directoryTest, listTest, threesTest};
+ghost use Rattle.judging.specs.Quick.{cell, partitionTest};
 ghost use Rattle.pages.specs.Width.{Width};
 
 // "twelve words, pairs of virtual address in the parent and physical address ..; then 0 and the parent's descriptor address. The rest 0."
@@ -64,4 +74,54 @@ pub fn threes_test(b: u32, m: &[u32], d: PhysicalPage) -> bool
         return false;
     }
     each_word(b, m, Question::Index(d))
+}
+
+// The descriptor, the directory and its shadows, the list.
+pub fn forms_test(b: u32, m: &[u32], d: PhysicalPage) -> bool
+    requires { ⌜ Width b ⌝ }
+    ensures {
+        λ r.
+        ⌜
+        r
+        ≡ (descriptorTest b (now (m .entry)) (d .0)
+        && all (directoryTest b (now (m .entry)) (d .0)) (from (pageWords b) 0)
+        && listTest b (now (m .entry)) (d .0))
+        ⌝
+    }
+{
+    if !descriptor_test(b, m, d) {
+        return false;
+    }
+    if !each_word(b, m, Question::Directory(d)) {
+        return false;
+    }
+    list_test(b, m, d)
+}
+
+// The table words at all addresses for which d has tables.
+pub fn cells_test(b: u32, m: &[u32], d: PhysicalPage) -> bool
+    requires { ⌜ Width b ⌝ }
+    ensures { λ r. ⌜ r ≡ all (cell b (now (m .entry)) (d .0)) (tabled b (now (m .entry)) (d .0)) ⌝ }
+{
+    virtual_pages(b) <= next(b, m, d, Ask::Wrong, VirtualPage(0)).0
+}
+
+// "Virtual page 0 is never mapped"; "no other page that isn't lent is inaccessible", by the number of those pages.
+pub fn partition_test(b: u32, m: &[u32], d: PhysicalPage) -> bool
+    requires { ⌜ Width b ⌝ }
+    ensures { λ r. ⌜ r ≡ partitionTest b (now (m .entry)) (d .0) ⌝ }
+{
+    if !forms_test(b, m, d) {
+        return false;
+    }
+    if !threes_test(b, m, d) {
+        return false;
+    }
+    if !cells_test(b, m, d) {
+        return false;
+    }
+    if mapping(b, m, d, 0) != 0 {
+        return false;
+    }
+    (shut_count(b, m, d) as u64) == due_count(b, m, d)
 }

@@ -2,7 +2,11 @@
 use crate::formatted::root_mapping;
 use crate::questions::Question;
 use crate::questions::each_word;
+use crate::search::Ask;
+use crate::search::next;
+use crate::search::virtual_pages;
 use pages::PhysicalPage;
+use pages::VirtualPage;
 use pages::above;
 use pages::mapping;
 use pages::pages;
@@ -15,7 +19,7 @@ ghost use Rattle.memory.specs.Geometry.{pageWords};
 ghost use Rattle.memory.specs.Words.{word};
 ghost use Rattle.memory.specs.Format.{formatWord};
 ghost use Rattle.memory.specs.Partition;
-ghost use Rattle.soundness.specs.Test.{rootMapTest};
+ghost use Rattle.soundness.specs.Test.{rootMapTest, rootTest};
 ghost use Rattle.pages.specs.Width.{Width};
 
 // The five pages of the root.
@@ -54,4 +58,14 @@ pub fn root_map(b: u32, m: &[u32], v: u32) -> bool
         return false;
     }
     above(b, m, PhysicalPage(1), v) == 0
+}
+
+pub fn root_test(b: u32, m: &[u32]) -> bool
+    requires { ⌜ Width b ⌝ }
+    ensures { λ r. ⌜ r ≡ rootTest b (now (m .entry)) ⌝ }
+{
+    if !root_pages(b, m) {
+        return false;
+    }
+    virtual_pages(b) <= next(b, m, PhysicalPage(1), Ask::WrongInRoot, VirtualPage(0)).0
 }
