@@ -8,3 +8,4 @@ pub mod Numbers
 pub mod Search
 pub mod Counts
 pub mod Marks
+pub mod Tree
