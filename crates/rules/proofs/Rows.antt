@@ -1,8 +1,9 @@
 -- A row of refusals, gone through test by test. Assumes nothing.
-use mathlib.Core.Path.{_≡_, refl, ap, _∙_}
+use mathlib.Core.Path.{_≡_, refl, sym, ap, _∙_}
+use mathlib.Core.Logic.{_≢_}
 use mathlib.Core.List.{List, [], _∷_}
 use mathlib.Core.Bool.{Bool, true, false, cond}
-use Prim.Native.Nat.{ℕ, suc, _-_}
+use Prim.Native.Nat.{ℕ, zero, suc}
 use Rattle.rules.specs.Refusal.{Refusal, number}
 use Rattle.rules.specs.Row.{Check, _when_, first, reply, pass, ok, no}
 use Rattle.rules.specs.Call.{Call}
@@ -37,3 +38,14 @@ module _ (b : ℕ) (m : List ℕ) (c : Call) where
   pub after-ok : First (refusals b m c) 0 → after b m c ≡ effect b m c
   unfolding after pass
   after-ok e = ap (λ (k : ℕ). pass k (effect b m c) m) (first-is e)
+
+-- a reply by its number
+
+pub reply-ok : (n x : ℕ) → n ≡ 0 → ok x ≡ reply n x
+unfolding reply
+reply-ok n x e = ap (λ (k : ℕ). reply k x) (sym e)
+
+pub reply-no : (n k x : ℕ) → n ≡ k → k ≢ 0 → no k ≡ reply n x
+unfolding reply
+reply-no n zero x e h = absurd (h refl)
+reply-no n (suc k) x e h = ap (λ (i : ℕ). reply i x) (sym e)

@@ -1,0 +1,24 @@
+-- "a definition gives this paper's number and values for each of the enum's cases": what an answer of the code stands for. Assumes nothing.
+use Rattle.rules.specs.Refusal.{number, DAMAGED, SIZE, ADDRESS, TWICE, CHILD, RIGHTS, HAND, TABLE, TAKEN, LIST, CHAIN, FULL-TABLE, DEPTH, ROOT, UNMAPPED, KERNEL}
+use Rattle.rules.specs.Row as Row
+use Rattle.answers.specs.declared.Answer.{Answer}
+use Rattle.answers.specs.declared.Answer.the-variants.{Done, Damaged, Size, Address, Twice, Child, Rights, Hand, Table, Taken, List, Chain, FullTable, Depth, Root, Unmapped, Kernel}
+
+abbrev pub said : Answer → Row.Answer
+said (Done x) = Row.ok x
+said Damaged = Row.no (number DAMAGED)
+said Size = Row.no (number SIZE)
+said Address = Row.no (number ADDRESS)
+said Twice = Row.no (number TWICE)
+said Child = Row.no (number CHILD)
+said Rights = Row.no (number RIGHTS)
+said Hand = Row.no (number HAND)
+said Table = Row.no (number TABLE)
+said Taken = Row.no (number TAKEN)
+said List = Row.no (number LIST)
+said Chain = Row.no (number CHAIN)
+said FullTable = Row.no (number FULL-TABLE)
+said Depth = Row.no (number DEPTH)
+said Root = Row.no (number ROOT)
+said Unmapped = Row.no (number UNMAPPED)
+said Kernel = Row.no (number KERNEL)

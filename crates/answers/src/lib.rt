@@ -1,0 +1,51 @@
+// What a call answers: done, with a word, or the refusal.
+ghost use mathlib.Core.Path.{_≡_};
+ghost use Prim.Native.Nat.{_≤_};
+ghost use Rattle.rules.specs.Row;
+ghost use Rattle.answers.specs.Said.{said};
+
+pub enum Answer {
+    Done(u32),
+    Damaged,
+    Size,
+    Address,
+    Twice,
+    Child,
+    Rights,
+    Hand,
+    Table,
+    Taken,
+    List,
+    Chain,
+    FullTable,
+    Depth,
+    Root,
+    Unmapped,
+    Kernel,
+}
+
+// The answer by a refusal's number, 0 where nothing is refused; x is the word of a call that is done.
+pub fn reply(n: u32, x: u32) -> Answer
+    requires { ⌜ n ≤ 16 ⌝ }
+    ensures { λ r. ⌜ said r ≡ Row.reply n x ⌝ }
+{
+    match n {
+        0 => Answer::Done(x),
+        1 => Answer::Damaged,
+        2 => Answer::Size,
+        3 => Answer::Address,
+        4 => Answer::Twice,
+        5 => Answer::Child,
+        6 => Answer::Rights,
+        7 => Answer::Hand,
+        8 => Answer::Table,
+        9 => Answer::Taken,
+        10 => Answer::List,
+        11 => Answer::Chain,
+        12 => Answer::FullTable,
+        13 => Answer::Depth,
+        14 => Answer::Root,
+        15 => Answer::Unmapped,
+        _ => Answer::Kernel,
+    }
+}
