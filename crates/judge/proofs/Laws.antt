@@ -9,3 +9,4 @@ pub mod Search
 pub mod Counts
 pub mod Marks
 pub mod Tree
+pub mod Judged

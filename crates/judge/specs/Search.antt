@@ -5,12 +5,12 @@ use Prim.Native.Nat.{ℕ, zero, suc, _+_, _*_, _/_}
 use lib.Dec.{eqb}
 use Rattle.memory.specs.Geometry.{pageWords, address}
 use Rattle.memory.specs.Words.{word}
-use Rattle.memory.specs.Partition.{directory, inHand}
+use Rattle.memory.specs.Partition.{directory, mapping, lent, inHand}
 use Rattle.memory.specs.Counts.{childAt}
 use Rattle.soundness.specs.Test.{rootMapTest}
 use Rattle.judging.specs.Quick.{cell, shutCell}
 use Rattle.judge.specs.declared.search.Ask.{Ask}
-use Rattle.judge.specs.declared.search.Ask.the-variants.{Child, Hand, Shut, Wrong, WrongInRoot}
+use Rattle.judge.specs.declared.search.Ask.the-variants.{Child, Hand, Shut, LentTo, Mapped, Wrong, WrongInRoot}
 
 -- the first of n numbers from i on at which p holds, or i + n
 unfoldable pub seek : (ℕ → Bool) → ℕ → ℕ → ℕ
@@ -37,5 +37,7 @@ abbrev pub sought : Ask → ℕ → List ℕ → ℕ → ℕ → Bool
 sought Child b m d v = childAt b m d v
 sought Hand b m d v = inHand b m d v
 sought Shut b m d v = shutCell b m d v
+sought (LentTo x) b m d v = eqb (lent b m d v) x
+sought Mapped b m d v = not (eqb (mapping b m d v) 0)
 sought Wrong b m d v = not (cell b m d v)
 sought WrongInRoot b m d v = not (rootMapTest b m v)

@@ -1,4 +1,4 @@
-// How many pages of a partition are neither lent nor accessible, and how many kernel pages its children have.
+// Sentences that are told from counts.
 use crate::children::child_of;
 use crate::search::Ask;
 use crate::search::address_of;
@@ -6,23 +6,33 @@ use crate::search::next;
 use crate::search::virtual_pages;
 use pages::PhysicalPage;
 use pages::VirtualPage;
+use pages::parent;
+use pages::read_word;
 use pages::threes;
 ghost use mathlib.Core.Path.{_≡_};
+ghost use mathlib.Core.Bool.{_||_};
 ghost use Prim.Native.Nat.{_+_, _*_, _<_};
+ghost use lib.Dec.{eqb};
+ghost use lib.ListN.{length};
+ghost use Rattle.walk.specs.Finite.{keep};
+ghost use Rattle.memory.specs.Words.{word};
 ghost use Rattle.memory.specs.Partition;
-ghost use Rattle.judging.specs.Quick.{shutCount, dueCount};
+ghost use Rattle.memory.specs.Counts.{tabled};
+ghost use Rattle.judging.specs.Quick.{shutCount, dueCount, lentCount, mappedCount};
+ghost use Rattle.judge.specs.Search.{sought};
 ghost use Rattle.pages.specs.Width.{Width};
 
-pub fn shut_count(b: u32, m: &[u32], d: PhysicalPage) -> u32
+// How many there are of what is looked for in d.
+pub fn count(b: u32, m: &[u32], d: PhysicalPage, a: Ask) -> u32
     requires { ⌜ Width b ⌝ }
-    ensures { λ r. ⌜ r ≡ shutCount b (now (m .entry)) (d .0) ⌝ }
+    ensures { λ r. ⌜ r ≡ length (keep (sought a b (now (m .entry)) (d .0)) (tabled b (now (m .entry)) (d .0))) ⌝ }
 {
     let end = virtual_pages(b);
     let mut k: u32 = 0;
-    let mut n = next(b, m, d, Ask::Shut, VirtualPage(0)).0;
+    let mut n = next(b, m, d, a, VirtualPage(0)).0;
     while n < end {
         k += 1;
-        n = next(b, m, d, Ask::Shut, VirtualPage(n + 1)).0;
+        n = next(b, m, d, a, VirtualPage(n + 1)).0;
     }
     k
 }
@@ -48,4 +58,31 @@ pub fn due_count(b: u32, m: &[u32], d: PhysicalPage) -> u64
         n = next(b, m, d, Ask::Child, VirtualPage(n + 1)).0;
     }
     k
+}
+
+// "no other page that isn't lent is inaccessible" than the children's kernel pages.
+pub fn shut_test(b: u32, m: &[u32], d: PhysicalPage) -> bool
+    requires { ⌜ Width b ⌝ }
+    ensures { λ r. ⌜ r ≡ eqb (shutCount b (now (m .entry)) (d .0)) (dueCount b (now (m .entry)) (d .0)) ⌝ }
+{
+    (count(b, m, d, Ask::Shut) as u64) == due_count(b, m, d)
+}
+
+// "conversely each lent page is mapped in that child once": the parent of d lends it as many pages as d maps.
+pub fn lent_test(b: u32, m: &[u32], d: PhysicalPage) -> bool
+    requires { ⌜ Width b ⌝ }
+    ensures {
+        λ r.
+        ⌜
+        r
+        ≡ (eqb (d .0) 1
+        || eqb (lentCount b (now (m .entry)) (Partition.parent b (now (m .entry)) (d .0)) (word b (now (m .entry)) (d .0) 0)) (mappedCount b (now (m .entry)) (d .0)))
+        ⌝
+    }
+{
+    if d.0 == 1 {
+        return true;
+    }
+    let v = read_word(b, m, d, 0);
+    count(b, m, parent(b, m, d), Ask::LentTo(v)) == count(b, m, d, Ask::Mapped)
 }

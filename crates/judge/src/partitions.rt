@@ -1,7 +1,7 @@
 // What a partition is asked before its pages are marked.
 use crate::addresses::physical_address;
-use crate::counts::due_count;
-use crate::counts::shut_count;
+use crate::counts::lent_test;
+use crate::counts::shut_test;
 use crate::questions::Question;
 use crate::questions::each;
 use crate::questions::each_pair;
@@ -106,7 +106,7 @@ pub fn cells_test(b: u32, m: &[u32], d: PhysicalPage) -> bool
     virtual_pages(b) <= next(b, m, d, Ask::Wrong, VirtualPage(0)).0
 }
 
-// "Virtual page 0 is never mapped"; "no other page that isn't lent is inaccessible", by the number of those pages.
+// Also: "Virtual page 0 is never mapped".
 pub fn partition_test(b: u32, m: &[u32], d: PhysicalPage) -> bool
     requires { ⌜ Width b ⌝ }
     ensures { λ r. ⌜ r ≡ partitionTest b (now (m .entry)) (d .0) ⌝ }
@@ -123,5 +123,8 @@ pub fn partition_test(b: u32, m: &[u32], d: PhysicalPage) -> bool
     if mapping(b, m, d, 0) != 0 {
         return false;
     }
-    (shut_count(b, m, d) as u64) == due_count(b, m, d)
+    if !shut_test(b, m, d) {
+        return false;
+    }
+    lent_test(b, m, d)
 }

@@ -8,6 +8,8 @@ use pages::PhysicalPage;
 use pages::VirtualPage;
 use pages::directory_index;
 use pages::in_hand;
+use pages::lent;
+use pages::mapping;
 use pages::page_bytes;
 use pages::page_words;
 ghost use mathlib.Core.Path.{_≡_};
@@ -33,11 +35,14 @@ pub fn address_of(b: u32, v: VirtualPage) -> u32
     v.0 * page_bytes(b)
 }
 
-// What is looked for: where a child stands, a page in hand, a page neither lent nor accessible, table words that are wrong.
+// What is looked for: a child, a page in hand, a page neither lent nor accessible, a page lent to the child at an address, a mapping, table words that
+// are wrong, those that are wrong in the root.
 pub enum Ask {
     Child,
     Hand,
     Shut,
+    LentTo(u32),
+    Mapped,
     Wrong,
     WrongInRoot,
 }
@@ -51,6 +56,8 @@ pub fn is_sought(b: u32, m: &[u32], d: PhysicalPage, a: Ask, v: u32) -> bool
         Ask::Child => child_at(b, m, d, v),
         Ask::Hand => in_hand(b, m, d, v),
         Ask::Shut => shut_cell(b, m, d, v),
+        Ask::LentTo(x) => lent(b, m, d, v) == x,
+        Ask::Mapped => mapping(b, m, d, v) != 0,
         Ask::Wrong => !cell(b, m, d, v),
         Ask::WrongInRoot => !root_map(b, m, v),
     }

@@ -10,7 +10,7 @@ ghost use mathlib.Core.Path.{_≡_};
 ghost use mathlib.Core.Bool.{true};
 ghost use Rattle.walk.specs.Walk.{clear};
 ghost use Rattle.memory.specs.Partition;
-ghost use Rattle.soundness.specs.Test.{headerTest};
+ghost use Rattle.soundness.specs.Test.{headerTest, soundTest};
 ghost use Rattle.judging.specs.Quick.{quickTest};
 ghost use Rattle.pages.specs.Width.{Width};
 
@@ -32,7 +32,7 @@ pub fn judged_with(b: u32, m: &[u32], seen: &mut [u8]) -> bool
 
 // Any lent memory, at the width of document 01. The marks are kept in a local array, so that no lent buffer changes.
 pub fn is_sound(m: &[u32]) -> bool
-    ensures { λ r. ⌜ r ≡ quickTest 6 (now (m .entry)) ⌝ }
+    ensures { λ r. ⌜ r ≡ soundTest 6 (now (m .entry)) ⌝ }
 {
     let b = width();
     if !header_test(b, m) {

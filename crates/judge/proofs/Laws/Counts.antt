@@ -9,8 +9,8 @@ use Rattle.walk.specs.Lists.{sumOf}
 use Rattle.walk.specs.Finite.{from, keep, image, length-image}
 use Rattle.memory.specs.Geometry.{address}
 use Rattle.memory.specs.Partition.{threes}
-use Rattle.memory.specs.Counts.{childAt, childOf, children}
-use Rattle.judging.specs.Quick.{shutCell, shutCount, dueCount}
+use Rattle.memory.specs.Counts.{tabled, childAt, childOf, children}
+use Rattle.judging.specs.Quick.{dueCount}
 use Rattle.judge.specs.Search.{seek, virtualPages, at}
 use Rattle.judge.proofs.Laws.Search.{found, found-first, found-next, found-out, kept-by-number, image-by-number}
 
@@ -36,12 +36,11 @@ abbrev pub kernelPages : ℕ → List ℕ → ℕ → ℕ
 kernelPages b m c = 5 + 3 * threes b m c
 
 module _ (b : ℕ) (m : List ℕ) (d : ℕ) where
-  pub shut-start : {v : ℕ} → v ≡ seek (at b m d (shutCell b m d)) (virtualPages b - 0) 0 → shutCount b m d ≡ 0 + length (found (at b m d (shutCell b m d)) (virtualPages b) v)
-  unfolding shutCount
-  shut-start e =
-      ap length (kept-by-number b m d (shutCell b m d))
-      ∙ length-image (address b) (keep (at b m d (shutCell b m d)) (from (virtualPages b) 0))
-      ∙ ap length (found-first (at b m d (shutCell b m d)) (virtualPages b) e)
+  pub count-start : (f : ℕ → Bool) {v : ℕ} → v ≡ seek (at b m d f) (virtualPages b - 0) 0 → length (keep f (tabled b m d)) ≡ 0 + length (found (at b m d f) (virtualPages b) v)
+  count-start f e =
+      ap length (kept-by-number b m d f)
+      ∙ length-image (address b) (keep (at b m d f) (from (virtualPages b) 0))
+      ∙ ap length (found-first (at b m d f) (virtualPages b) e)
       ∙ omega arith
 
   -- the child that stands at virtual page n

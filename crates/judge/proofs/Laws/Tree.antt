@@ -1,12 +1,13 @@
 -- The walk over the tree, and whether current is in it, in the code's terms. Assumes nothing.
 use mathlib.Core.Path.{_≡_, refl, sym, ap, _∙_}
-use mathlib.Core.Bool.{Bool, true, false, not, _&&_}
+use mathlib.Core.Bool.{Bool, true, false, not, _&&_, false≢true}
 use mathlib.Core.List.{List}
 use mathlib.Core.Logic.{_≢_}
 use Prim.Native.Nat.{ℕ, zero, suc, _-_, _≤_, _<_}
 use native.Mathlib.Omega.{arith}
-use lib.Dec.{leb, eqb}
-use borrow.Author.Tests.{leb-true, eq-eqb, ne-eqb}
+use native.Mathlib.Decide.{decLt}
+use lib.Dec.{eqb}
+use borrow.Author.Tests.{eq-eqb, ne-eqb}
 use Rattle.walk.specs.Finite.{from, all}
 use Rattle.memory.specs.Geometry.{pageWords, mostThrees}
 use Rattle.memory.specs.Words.{word}
@@ -14,27 +15,30 @@ use Rattle.memory.specs.Partition.{parent, threes, tableFor}
 use Rattle.memory.specs.Counts.{childAt, childOf}
 use Rattle.soundness.specs.Test.{virtual, descriptorTest, directoryTest, listTest, placed, under}
 use Rattle.judging.specs.Quick.{partitionTest}
-
-and-left : (f g : Bool) → f && g ≡ true → f ≡ true
-and-left true g e = refl
-and-left false g e = e
-
-and-right : (f g : Bool) → f && g ≡ true → g ≡ true
-and-right true g e = e
-and-right false g e = let z : _≡_ {A = ℕ} 0 1 = cc in absurd (omega arith)
+use Rattle.judge.proofs.Laws.Tests.{and-false}
+use Rattle.judge.proofs.Laws.Whole.{list-many}
 
 module _ (b : ℕ) (m : List ℕ) where
   -- a list that passed has few enough threes
   list-few : (d : ℕ) → listTest b m d ≡ true → threes b m d ≤ mostThrees
-  unfolding listTest
-  list-few d e = leb-true (threes b m d) mostThrees (and-right _ (leb (threes b m d) mostThrees) (and-left _ _ (and-left _ _ e)))
+  list-few d e = elim (decLt mostThrees (threes b m d)) [ yes h ↦ absurd (false≢true (list-many b m d h ∙ e)) | no h ↦ omega arith ]
 
   pub forms-few : (d : ℕ) → descriptorTest b m d && all (directoryTest b m d) (from (pageWords b) 0) && listTest b m d ≡ true → threes b m d ≤ mostThrees
-  forms-few d e = list-few d (and-right _ (listTest b m d) e)
+  forms-few d e = go (listTest b m d) refl
+    where
+      go : (t : Bool) → listTest b m d ≡ t → threes b m d ≤ mostThrees
+      go true q = list-few d q
+      go false q = absurd (false≢true (sym (and-false (descriptorTest b m d && all (directoryTest b m d) (from (pageWords b) 0))) ∙ rw q at e))
 
   pub partition-few : (d : ℕ) → partitionTest b m d ≡ true → threes b m d ≤ mostThrees
-  unfolding partitionTest
-  partition-few d e = forms-few d (and-left _ _ (and-left _ _ (and-left _ _ (and-left _ _ e))))
+  partition-few d e = go (listTest b m d) refl
+    where
+      none : listTest b m d ≡ false → partitionTest b m d ≡ false
+      none q = unfold partitionTest in (rw (q, and-false (descriptorTest b m d && all (directoryTest b m d) (from (pageWords b) 0))) refl)
+
+      go : (t : Bool) → listTest b m d ≡ t → threes b m d ≤ mostThrees
+      go true q = list-few d q
+      go false q = absurd (false≢true (sym (none q) ∙ e))
 
   -- up from c, n steps at most
   pub under-root : (n c : ℕ) → c ≡ 1 → true ≡ under b m n c

@@ -1,14 +1,14 @@
 use mathlib.Core.Path.{refl}
 use Rattle.judging.specs.Quick.{partitionTest}
 use Rattle.judge.proofs.Laws.Tree.{forms-few}
-use Rattle.judge.proofs.Laws.Tests.{yes, no, unequal, equal, same-eqb}
+use Rattle.judge.proofs.Laws.Tests.{yes, no, unequal, equal}
 use borrow.Author.Needs.{needs}
 use Rattle.judge.proofs.partitions.partition_test.Statement.{statement}
 use Rattle.judge.proofs.partitions.partition_test.Tie as tie
 use Rattle.judge.proofs.partitions.partition_test.Reads as reads
 use Rattle.judge.proofs.partitions.partition_test.Lts as lts
-use Rattle.judge.proofs.counts.due_count.Reads as due-count-reads
-use Rattle.judge.proofs.counts.shut_count.Reads as shut-count-reads
+use Rattle.judge.proofs.counts.lent_test.Reads as lent-test-reads
+use Rattle.judge.proofs.counts.shut_test.Reads as shut-test-reads
 use Rattle.judge.proofs.partitions.cells_test.Reads as cells-test-reads
 use Rattle.judge.proofs.partitions.forms_test.Reads as forms-test-reads
 use Rattle.judge.proofs.partitions.threes_test.Reads as threes-test-reads
@@ -50,22 +50,23 @@ returns-4 : tie.Need-returns-4
 unfolding partitionTest
 returns-4 c = rw (yes (c .before .before .before .before .before .before .before .forms-test .ensures) (c .before .before .before .before .before .before .if1 .left), yes (c .before .before .before .before .before .threes-test .ensures) (c .before .before .before .before .if2 .left), yes (c .before .before .before .cells-test .ensures) (c .before .before .if3 .left), unequal (c .before .mapping .ensures) refl (c .if4 .taken))
 
--- src/partitions.rt:126:6
-shut-count-requires : tie.Need-shut-count-requires
-shut-count-requires c κs = search needs
+-- src/partitions.rt:126:9
+shut-test-requires : tie.Need-shut-test-requires
+shut-test-requires c κs = search needs
 
--- src/partitions.rt:126:6
-cast-result : tie.Need-cast-result
-cast-result c = search needs
-
--- src/partitions.rt:126:37
-due-count-requires : tie.Need-due-count-requires
-due-count-requires c κs = search needs
-
--- src/partitions.rt:110:1
+-- src/partitions.rt:127:9
 returns-5 : tie.Need-returns-5
 unfolding partitionTest
-returns-5 c = rw (yes (c .before .before .before .before .before .before .before .before .before .forms-test .ensures) (c .before .before .before .before .before .before .before .before .if1 .left), yes (c .before .before .before .before .before .before .before .threes-test .ensures) (c .before .before .before .before .before .before .if2 .left), yes (c .before .before .before .before .before .cells-test .ensures) (c .before .before .before .before .if3 .left), equal (c .before .before .before .mapping .ensures) refl (c .before .before .if4 .left)) (same-eqb (c .before .shut-count .ensures) (c .due-count .ensures))
+returns-5 c = rw (yes (c .before .before .before .before .before .before .before .before .before .forms-test .ensures) (c .before .before .before .before .before .before .before .before .if1 .left), yes (c .before .before .before .before .before .before .before .threes-test .ensures) (c .before .before .before .before .before .before .if2 .left), yes (c .before .before .before .before .before .cells-test .ensures) (c .before .before .before .before .if3 .left), equal (c .before .before .before .mapping .ensures) refl (c .before .before .if4 .left), no (c .before .shut-test .ensures) (c .if5 .taken))
+
+-- src/partitions.rt:129:5
+lent-test-requires : tie.Need-lent-test-requires
+lent-test-requires c κs = search needs
+
+-- src/partitions.rt:110:1
+returns-6 : tie.Need-returns-6
+unfolding partitionTest
+returns-6 c = rw (yes (c .before .before .before .before .before .before .before .before .before .before .forms-test .ensures) (c .before .before .before .before .before .before .before .before .before .if1 .left), yes (c .before .before .before .before .before .before .before .before .threes-test .ensures) (c .before .before .before .before .before .before .before .if2 .left), yes (c .before .before .before .before .before .before .cells-test .ensures) (c .before .before .before .before .before .if3 .left), equal (c .before .before .before .before .mapping .ensures) refl (c .before .before .before .if4 .left), yes (c .before .before .shut-test .ensures) (c .before .if5 .left)) (c .lent-test .ensures)
 
 pub partition-test-spec : {M : Type 1} → statement M
 partition-test-spec =
@@ -79,7 +80,7 @@ partition-test-spec =
     returns-3
     mapping-requires
     returns-4
-    shut-count-requires
-    cast-result
-    due-count-requires
-    returns-5)
+    shut-test-requires
+    returns-5
+    lent-test-requires
+    returns-6)
