@@ -1,0 +1,12 @@
+pub mod Tests
+pub mod Loops
+pub mod Forms
+pub mod Formatted
+pub mod Whole
+pub mod Cells
+pub mod Numbers
+pub mod Search
+pub mod Counts
+pub mod Marks
+pub mod Tree
+pub mod Judged

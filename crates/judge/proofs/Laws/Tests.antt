@@ -1,0 +1,38 @@
+-- What a test that the code made tells of the test that it stands for: f is that test, x the code's, u and v its numbers. Assumes nothing.
+use mathlib.Core.Path.{_≡_, refl, sym, ap, _∙_}
+use mathlib.Core.Bool.{Bool, true, false, not, _&&_, _||_}
+use mathlib.Core.Logic.{_≢_}
+use Prim.Native.Nat.{ℕ, _≤_, _<_}
+use lib.Dec.{leb, ltb, eqb}
+use borrow.Author.Tests.{not-true, not-false, eq-eqb, ne-eqb, le-leb, lt-leb, lt-ltb, le-ltb}
+
+pub yes : {x f : Bool} → x ≡ f → not x ≡ false → f ≡ true
+yes {x} e t = sym e ∙ not-false x t
+
+pub no : {x f : Bool} → x ≡ f → not x ≡ true → f ≡ false
+no {x} e t = sym e ∙ not-true x t
+
+module _ {x y u v : ℕ} (e : x ≡ u) (q : y ≡ v) where
+  pub equal : x ≡ y → eqb u v ≡ true
+  equal h = eq-eqb u v (sym e ∙ h ∙ q)
+
+  pub unequal : x ≢ y → eqb u v ≡ false
+  unequal h = ne-eqb u v (λ z. h (e ∙ z ∙ sym q))
+
+  pub same-eqb : eqb x y ≡ eqb u v
+  same-eqb = rw (e, q)
+
+  pub same-leb : leb x y ≡ leb u v
+  same-leb = rw (e, q)
+
+  pub same-ltb : ltb x y ≡ ltb u v
+  same-ltb = rw (e, q)
+
+-- a test that fails, wherever it stands
+pub and-false : (f : Bool) → f && false ≡ false
+and-false true = refl
+and-false false = refl
+
+pub and-true : (f : Bool) → f && true ≡ f
+and-true true = refl
+and-true false = refl

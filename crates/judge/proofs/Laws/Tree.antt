@@ -1,0 +1,67 @@
+-- The walk over the tree, and whether current is in it, in the code's terms. Assumes nothing.
+use mathlib.Core.Path.{_≡_, refl, sym, ap, _∙_}
+use mathlib.Core.Bool.{Bool, true, false, not, _&&_, false≢true}
+use mathlib.Core.List.{List}
+use mathlib.Core.Logic.{_≢_}
+use Prim.Native.Nat.{ℕ, zero, suc, _-_, _≤_, _<_}
+use native.Mathlib.Omega.{arith}
+use native.Mathlib.Decide.{decLt}
+use lib.Dec.{eqb}
+use borrow.Author.Tests.{eq-eqb, ne-eqb}
+use Rattle.walk.specs.Finite.{from, all}
+use Rattle.memory.specs.Geometry.{pageWords, mostThrees}
+use Rattle.memory.specs.Words.{word}
+use Rattle.memory.specs.Partition.{parent, threes, tableFor}
+use Rattle.memory.specs.Counts.{childAt, childOf}
+use Rattle.soundness.specs.Test.{virtual, descriptorTest, directoryTest, listTest, placed, under}
+use Rattle.judging.specs.Quick.{partitionTest}
+use Rattle.judge.proofs.Laws.Tests.{and-false}
+use Rattle.judge.proofs.Laws.Whole.{list-many}
+
+module _ (b : ℕ) (m : List ℕ) where
+  -- a list that passed has few enough threes
+  list-few : (d : ℕ) → listTest b m d ≡ true → threes b m d ≤ mostThrees
+  list-few d e = elim (decLt mostThrees (threes b m d)) [ yes h ↦ absurd (false≢true (list-many b m d h ∙ e)) | no h ↦ omega arith ]
+
+  pub forms-few : (d : ℕ) → descriptorTest b m d && all (directoryTest b m d) (from (pageWords b) 0) && listTest b m d ≡ true → threes b m d ≤ mostThrees
+  forms-few d e = go (listTest b m d) refl
+    where
+      go : (t : Bool) → listTest b m d ≡ t → threes b m d ≤ mostThrees
+      go true q = list-few d q
+      go false q = absurd (false≢true (sym (and-false (descriptorTest b m d && all (directoryTest b m d) (from (pageWords b) 0))) ∙ rw q at e))
+
+  pub partition-few : (d : ℕ) → partitionTest b m d ≡ true → threes b m d ≤ mostThrees
+  partition-few d e = go (listTest b m d) refl
+    where
+      none : listTest b m d ≡ false → partitionTest b m d ≡ false
+      none q = unfold partitionTest in (rw (q, and-false (descriptorTest b m d && all (directoryTest b m d) (from (pageWords b) 0))) refl)
+
+      go : (t : Bool) → listTest b m d ≡ t → threes b m d ≤ mostThrees
+      go true q = list-few d q
+      go false q = absurd (false≢true (sym (none q) ∙ e))
+
+  -- up from c, n steps at most
+  pub under-root : (n c : ℕ) → c ≡ 1 → true ≡ under b m n c
+  unfolding under
+  under-root zero c e = sym (eq-eqb c 1 e)
+  under-root (suc n) c e = rw (eq-eqb c 1 e) refl
+
+  pub under-not : (n c : ℕ) → 0 < n → c ≢ 1 → placed b m c ≡ false → false ≡ under b m n c
+  unfolding under
+  under-not zero c h n e = absurd (omega arith)
+  under-not (suc k) c h n e = rw (ne-eqb c 1 n) (rw e refl)
+
+  pub under-up : (n c : ℕ) → 0 < n → c ≢ 1 → placed b m c ≡ true → under b m n c ≡ under b m (n - 1) (parent b m c)
+  unfolding under
+  under-up zero c h n e = absurd (omega arith)
+  under-up (suc k) c h n e = let q : suc k - 1 ≡ k = omega arith in rw (ne-eqb c 1 n) (rw (e, q) refl)
+
+  pub under-end : (n c : ℕ) → n ≡ 0 → under b m n c ≡ eqb c 1
+  unfolding under
+  under-end n c e = ap (λ (k : ℕ). under b m k c) e
+
+  -- p is the parent that c names, v the address
+  pub placed-as : (c : ℕ) {p v : ℕ} → p ≡ parent b m c → v ≡ word b m c 0
+      → placed b m c ≡ virtual b v && not (eqb (tableFor b m p v) 0) && childAt b m p v && eqb (childOf b m p v) c
+  unfolding placed
+  placed-as c e q = rw (e, q) refl

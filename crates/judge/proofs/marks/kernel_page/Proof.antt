@@ -1,0 +1,57 @@
+use mathlib.Core.Path.{ap, _∙_}
+use native.Mathlib.Omega.{arith}
+use Rattle.memory.specs.Geometry.{pageOf}
+use Rattle.judge.proofs.Laws.Marks.{kernel-five, kernel-listed}
+use borrow.Author.Needs.{needs}
+use Rattle.judge.proofs.marks.kernel_page.Statement.{statement}
+use Rattle.judge.proofs.marks.kernel_page.Tie as tie
+use Rattle.judge.proofs.marks.kernel_page.Reads as reads
+use Rattle.judge.proofs.marks.kernel_page.Lts as lts
+use Rattle.judge.proofs.pairs.list_pair.Reads as list-pair-reads
+use Rattle.pages.proofs.page_of.Reads as page-of-reads
+use Rattle.pages.proofs.named.Reads as named-reads
+
+-- src/marks.rt:49:9
+returns : tie.Need-returns
+returns c = search needs
+
+-- src/marks.rt:52:31
+mul-named : tie.Need-mul-named
+mul-named c = search needs
+
+-- src/marks.rt:52:31
+add-named : tie.Need-add-named
+add-named c = search needs
+
+-- src/marks.rt:52:9
+named-requires : tie.Need-named-requires
+named-requires c κs = search needs
+
+-- src/marks.rt:52:9
+returns-2 : tie.Need-returns-2
+returns-2 c = c .named .ensures ∙ kernel-five (c .before .before .before .before .args .b) (c .before .before .before .before .args .m .now) (c .before .before .before .before .args .d .0) (c .before .before .before .before .args .j) (c .before .before .if1 .left) (c .before .if2 .taken)
+
+-- src/marks.rt:54:16
+list-pair-requires : tie.Need-list-pair-requires
+list-pair-requires c κs = search needs
+
+-- src/marks.rt:54:5
+page-of-requires : tie.Need-page-of-requires
+page-of-requires c κs = search needs
+
+-- src/marks.rt:43:1
+returns-3 : tie.Need-returns-3
+returns-3 c = c .page-of .ensures ∙ ap (pageOf (c .before .before .before .before .before .args .b)) (c .before .list-pair .ensures .1) ∙ kernel-listed (c .before .before .before .before .before .args .b) (c .before .before .before .before .before .args .m .now) (c .before .before .before .before .before .args .d .0) (c .before .before .before .before .before .args .j) (omega arith) (c .before .before .before .before .before .pre .1)
+
+pub kernel-page-spec : {M : Type 1} → statement M
+kernel-page-spec =
+    tie.close
+    (tie.spec
+    returns
+    mul-named
+    add-named
+    named-requires
+    returns-2
+    list-pair-requires
+    page-of-requires
+    returns-3)

@@ -1,0 +1,96 @@
+use Prim.Native.Nat.{_-_}
+use mathlib.Core.Path.{_≡_, refl, _∙_}
+use mathlib.Core.List.{_++_}
+use native.Mathlib.Omega.{arith}
+use lib.ListN.{length, drop}
+use Rattle.memory.specs.Uses.{fivePages}
+use Rattle.walk.specs.Marks.{marks}
+use Rattle.soundness.proofs.Used.{front}
+use Rattle.soundness.specs.Test.{listedPages}
+use Rattle.judge.proofs.Laws.Marks.{mark-went, mark-failed, mark-end}
+use borrow.Author.Needs.{needs}
+use Rattle.judge.proofs.marks.mark_kernel.Statement.{statement}
+use Rattle.judge.proofs.marks.mark_kernel.Tie as tie
+use Rattle.judge.proofs.marks.mark_kernel.Reads as reads
+use Rattle.judge.proofs.marks.mark_kernel.Lts as lts
+use Rattle.judge.proofs.marks.kernel_page.Reads as kernel-page-reads
+use Rattle.judge.proofs.marks.mark_page.Reads as mark-page-reads
+use Rattle.pages.proofs.threes.Reads as threes-reads
+
+abbrev Inv-loop : tie.InvT-loop
+Inv-loop b m seen₀ d n j₀ seen j = (length seen ≡ length seen₀) × (marks seen₀ (fivePages b m (d .0) ++ listedPages b m (d .0)) ≡ marks seen (drop j (fivePages b m (d .0) ++ listedPages b m (d .0))))
+
+abbrev μ-loop : tie.MeasureT-loop
+μ-loop b m seen₀ d n j₀ seen j = n - j
+
+-- src/marks.rt:63:21
+threes-requires : tie.Need-threes-requires Inv-loop μ-loop
+threes-requires c κs = search needs
+
+-- src/marks.rt:63:17
+mul-n : tie.Need-mul-n Inv-loop μ-loop
+mul-n c = search needs
+
+-- src/marks.rt:63:13
+add-n : tie.Need-add-n Inv-loop μ-loop
+add-n c = search needs
+
+-- src/marks.rt:65:5
+loop-holds : tie.Need-loop-holds Inv-loop μ-loop
+loop-holds c = (refl, refl)
+
+-- src/marks.rt:66:29
+kernel-page-requires : tie.Need-kernel-page-requires Inv-loop μ-loop
+kernel-page-requires c κs = search needs
+
+-- src/marks.rt:66:13
+mark-page-requires : tie.Need-mark-page-requires Inv-loop μ-loop
+mark-page-requires c κs = search needs
+
+-- src/marks.rt:67:13
+same-length : tie.Need-same-length Inv-loop μ-loop
+same-length c = search needs
+
+-- src/marks.rt:67:13
+returns : tie.Need-returns Inv-loop μ-loop
+returns c = mark-failed (fivePages (c .before .before .before .before .before .before .before .before .before .before .before .args .b) (c .before .before .before .before .before .before .before .before .before .before .before .args .m .now) (c .before .before .before .before .before .before .before .before .before .before .before .args .d .0) ++ listedPages (c .before .before .before .before .before .before .before .before .before .before .before .args .b) (c .before .before .before .before .before .before .before .before .before .before .before .args .m .now) (c .before .before .before .before .before .before .before .before .before .before .before .args .d .0)) (c .before .before .before .before .before .before .before .loop .j) (c .before .before .before .before .before .before .before .loop .seen) (c .before .before .before .mark-page .result) (c .before .before .before .mark-page .last .0) (omega (arith, c .before .before .before .before .before .before .before .before .threes .ensures, front (c .before .before .before .before .before .before .before .before .before .before .before .args .b) (c .before .before .before .before .before .before .before .before .before .before .before .args .m .now) (c .before .before .before .before .before .before .before .before .before .before .before .args .d .0))) (c .before .before .before .before .kernel-page .ensures) (c .before .before .before .mark-page .ensures) (c .if1 .taken) (c .before .before .before .before .before .before .before .loop .inv .1)
+
+-- src/marks.rt:69:9
+add-j : tie.Need-add-j Inv-loop μ-loop
+add-j c = search needs
+
+-- src/marks.rt:65:5
+loop-less : tie.Need-loop-less Inv-loop μ-loop
+loop-less c = search needs
+
+-- src/marks.rt:65:5
+loop-again : tie.Need-loop-again Inv-loop μ-loop
+loop-again c = (c .before .before .before .mark-page .kept .0 ∙ c .before .before .before .before .before .before .before .loop .inv .0, mark-went (fivePages (c .before .before .before .before .before .before .before .before .before .before .before .args .b) (c .before .before .before .before .before .before .before .before .before .before .before .args .m .now) (c .before .before .before .before .before .before .before .before .before .before .before .args .d .0) ++ listedPages (c .before .before .before .before .before .before .before .before .before .before .before .args .b) (c .before .before .before .before .before .before .before .before .before .before .before .args .m .now) (c .before .before .before .before .before .before .before .before .before .before .before .args .d .0)) (c .before .before .before .before .before .before .before .loop .j) (c .before .before .before .before .before .before .before .loop .seen) (c .before .before .before .mark-page .result) (c .before .before .before .mark-page .last .0) (omega (arith, c .before .before .before .before .before .before .before .before .threes .ensures, front (c .before .before .before .before .before .before .before .before .before .before .before .args .b) (c .before .before .before .before .before .before .before .before .before .before .before .args .m .now) (c .before .before .before .before .before .before .before .before .before .before .before .args .d .0))) (c .before .before .before .before .kernel-page .ensures) (c .before .before .before .mark-page .ensures) (c .if1 .left) (c .before .before .before .before .before .before .before .loop .inv .1))
+
+-- src/marks.rt:58:1
+same-length-2 : tie.Need-same-length-2 Inv-loop μ-loop
+same-length-2 c = search needs
+
+-- src/marks.rt:58:1
+returns-2 : tie.Need-returns-2 Inv-loop μ-loop
+returns-2 c = mark-end (fivePages (c .before .before .before .before .before .args .b) (c .before .before .before .before .before .args .m .now) (c .before .before .before .before .before .args .d .0) ++ listedPages (c .before .before .before .before .before .args .b) (c .before .before .before .before .before .args .m .now) (c .before .before .before .before .before .args .d .0)) (c .before .loop .j) (c .before .loop .seen) (omega (arith, c .before .before .threes .ensures, front (c .before .before .before .before .before .args .b) (c .before .before .before .before .before .args .m .now) (c .before .before .before .before .before .args .d .0))) (c .before .loop .inv .1)
+
+pub mark-kernel-spec : {M : Type 1} → statement M
+mark-kernel-spec =
+    tie.close
+    (tie.spec
+    Inv-loop
+    μ-loop
+    threes-requires
+    mul-n
+    add-n
+    loop-holds
+    kernel-page-requires
+    mark-page-requires
+    same-length
+    returns
+    add-j
+    loop-less
+    loop-again
+    same-length-2
+    returns-2)

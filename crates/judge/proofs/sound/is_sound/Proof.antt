@@ -1,0 +1,77 @@
+use Rattle.judge.proofs.Laws.Judged.{header-most, unsound-header, clear-part}
+use Prim.Native.Nat.{ℕ}
+use mathlib.Core.Path.{_≡_, ap, _∙_}
+use native.Mathlib.Omega.{arith}
+use Rattle.memory.specs.Partition.{pages}
+use Rattle.soundness.specs.Test.{headerTest}
+use Rattle.judging.specs.Quick.{quickTest}
+use Rattle.judging.proofs.Exact.{quick-exact}
+use Rattle.judge.proofs.Laws.Judged.{header-most, unsound-header}
+use Rattle.judge.proofs.Laws.Tests.{yes, no}
+use borrow.Author.Needs.{needs}
+use Rattle.judge.proofs.sound.is_sound.Statement.{statement}
+use Rattle.judge.proofs.sound.is_sound.Tie as tie
+use Rattle.judge.proofs.sound.is_sound.Reads as reads
+use Rattle.judge.proofs.sound.is_sound.Lts as lts
+use Rattle.judge.proofs.header.header_test.Reads as header-test-reads
+use Rattle.judge.proofs.sound.judged_with.Reads as judged-with-reads
+use Rattle.pages.proofs.pages.Reads as pages-reads
+use Rattle.pages.proofs.width.Reads as width-reads
+
+-- src/sound.rt:37:9
+width-requires : tie.Need-width-requires
+width-requires c κs = search needs
+
+-- src/sound.rt:38:9
+header-test-requires : tie.Need-header-test-requires
+header-test-requires c κs = search needs
+
+-- src/sound.rt:39:9
+returns : tie.Need-returns
+returns c = unsound-header 6 (c .before .before .before .before .args .m .now) (no (c .before .header-test .ensures ∙ ap (λ (b : ℕ). headerTest b (c .before .before .before .before .args .m .now)) (c .before .before .width .ensures)) (c .if1 .taken))
+
+-- src/sound.rt:41:13
+pages-requires : tie.Need-pages-requires
+pages-requires c κs = search needs
+
+-- src/sound.rt:41:13
+cast-n : tie.Need-cast-n
+cast-n c = search needs
+
+-- src/sound.rt:43:23
+sub-judged-with : tie.Need-sub-judged-with
+sub-judged-with c = search needs
+
+-- src/sound.rt:43:23
+part-seen-start : tie.Need-part-seen-start
+part-seen-start c = search needs
+
+-- src/sound.rt:43:23
+part-seen-end : tie.Need-part-seen-end
+part-seen-end c = omega (arith, (c .pages .ensures ∙ ap (λ (b : ℕ). pages b (c .before .before .before .before .before .args .m .now)) (c .before .before .before .width .ensures)), header-most 6 (c .before .before .before .before .before .args .m .now) (yes (c .before .before .header-test .ensures ∙ ap (λ (b : ℕ). headerTest b (c .before .before .before .before .before .args .m .now)) (c .before .before .before .width .ensures)) (c .before .if1 .left)))
+
+-- src/sound.rt:43:5
+judged-with-requires : tie.Need-judged-with-requires
+judged-with-requires c κs =
+    (omega (arith, c .before .before .before .before .width .ensures),
+    (yes (c .before .before .before .header-test .ensures) (c .before .before .if1 .left),
+    clear-part (c .before .pages .result) (pages (c .before .before .before .before .width .result) (c .before .before .before .before .before .before .args .m .now)) (c .before .pages .ensures) (omega (arith, (c .before .pages .ensures ∙ ap (λ (b : ℕ). pages b (c .before .before .before .before .before .before .args .m .now)) (c .before .before .before .before .width .ensures)), header-most 6 (c .before .before .before .before .before .before .args .m .now) (yes (c .before .before .before .header-test .ensures ∙ ap (λ (b : ℕ). headerTest b (c .before .before .before .before .before .before .args .m .now)) (c .before .before .before .before .width .ensures)) (c .before .before .if1 .left))))))
+
+-- src/sound.rt:34:1
+returns-2 : tie.Need-returns-2
+returns-2 c = c .before .judged-with .ensures ∙ ap (λ (b : ℕ). quickTest b (c .before .before .before .before .before .before .before .before .args .m .now)) (c .before .before .before .before .before .before .width .ensures) ∙ quick-exact 6 (omega arith) (c .before .before .before .before .before .before .before .before .args .m .now)
+
+pub is-sound-spec : {M : Type 1} → statement M
+is-sound-spec =
+    tie.close
+    (tie.spec
+    width-requires
+    header-test-requires
+    returns
+    pages-requires
+    cast-n
+    sub-judged-with
+    part-seen-start
+    part-seen-end
+    judged-with-requires
+    returns-2)

@@ -1,0 +1,3 @@
+pub mod Asked
+pub mod Stands
+pub mod Search

@@ -1,0 +1,49 @@
+// Words that are addresses.
+use pages::PhysicalPage;
+use pages::frame;
+use pages::index;
+use pages::page_of;
+ghost use mathlib.Core.Path.{_≡_};
+ghost use lib.Dec.{ltb, eqb};
+ghost use Rattle.memory.specs.Geometry.{address, pageOf};
+ghost use Rattle.memory.specs.Partition.{pages};
+ghost use Rattle.soundness.specs.Test.{virtual, physical};
+ghost use Rattle.pages.specs.Width.{Width};
+
+// The page that the word w names is one of the memory's.
+pub fn in_memory(b: u32, m: &[u32], w: u32) -> bool
+    requires { ⌜ Width b ⌝ }
+    ensures { λ r. ⌜ r ≡ ltb (pageOf b w) (pages b (now (m .entry))) ⌝ }
+{
+    page_of(b, w).0 < pages::pages(b, m)
+}
+
+// v is the address of a virtual page: "a virtual address has 20 bits". The end is 2^32 at width 10, so it is compared in 64 bits.
+pub fn virtual_address(b: u32, v: u32) -> bool
+    requires { ⌜ Width b ⌝ }
+    ensures { λ r. ⌜ r ≡ virtual b v ⌝ }
+{
+    if frame(b, v) != v {
+        return false;
+    }
+    (v as u64) < (1u64 << (3 * b + 2))
+}
+
+// a is the address of a physical page: "a physical address is 256k".
+pub fn physical_address(b: u32, m: &[u32], a: u32) -> bool
+    requires { ⌜ Width b ⌝ }
+    ensures { λ r. ⌜ r ≡ physical b (now (m .entry)) a ⌝ }
+{
+    if frame(b, a) != a {
+        return false;
+    }
+    in_memory(b, m, a)
+}
+
+// w is the address of page p. The address of any number is worked out in 64 bits.
+pub fn is_address(b: u32, w: u32, p: PhysicalPage) -> bool
+    requires { ⌜ Width b ⌝ }
+    ensures { λ r. ⌜ r ≡ eqb w (address b (p .0)) ⌝ }
+{
+    (w as usize) == 4 * index(b, p, 0)
+}

@@ -1,0 +1,110 @@
+// What format leaves: the sizes, and the words of the root's descriptor, directory, shadows and list.
+use pages::PhysicalPage;
+use pages::VirtualPage;
+use pages::address;
+use pages::page_of;
+use pages::page_words;
+use pages::rights;
+ghost use mathlib.Core.Path.{_≡_};
+ghost use mathlib.Core.Bool.{cond, _&&_};
+ghost use Prim.Native.Nat.{_+_, _-_, _*_, _<_};
+ghost use lib.Dec.{leb, eqb};
+ghost use Rattle.memory.specs.Geometry.{pageOf, threesFor, flatPages};
+ghost use Rattle.memory.specs.Entry;
+ghost use Rattle.memory.specs.Entry.{allRights};
+ghost use Rattle.memory.specs.Format.{rootDescriptorWord, rootDirectoryWord, rootListWord};
+ghost use Rattle.pages.specs.Width.{Width};
+
+// The difference, or 0 where there is none.
+fn minus(x: u32, y: u32) -> u32
+    ensures { λ r. ⌜ r ≡ x - y ⌝ }
+{
+    if x < y { 0 } else { x - y }
+}
+
+// T: "the smallest number with 67T ≥ N−5". It is worked out in 64 bits, since N may be any number.
+pub fn threes_for(b: u32, n: u32) -> u32
+    requires { ⌜ Width b ⌝ }
+    ensures { λ r. ⌜ (r ≡ threesFor b n) × (r < 67108864) ⌝ }
+{
+    let w = page_words(b) as u64;
+    (((minus(n, 5) as u64) + (w + 2)) / (w + 3)) as u32
+}
+
+// F: "N−6−3T"
+pub fn flat_pages(b: u32, n: u32) -> u32
+    requires { ⌜ Width b ⌝ }
+    ensures { λ r. ⌜ r ≡ flatPages b n ⌝ }
+{
+    minus(minus(n, 6), 3 * threes_for(b, n))
+}
+
+// "The root's virtual addresses in descriptor and list are 0, its parent 0."
+pub fn root_descriptor_word(b: u32, i: u32) -> u32
+    requires { ⌜ Width b ⌝ }
+    ensures { λ r. ⌜ r ≡ rootDescriptorWord b i ⌝ }
+{
+    if 10 <= i {
+        return 0;
+    }
+    if i % 2 == 0 {
+        return 0;
+    }
+    address(b, PhysicalPage(i / 2 + 1))
+}
+
+// "a table's physical address + 1": k is 0 for the directory, 1 and 2 for the shadows.
+pub fn root_directory_word(b: u32, n: u32, k: u32, i: u32) -> u32
+    requires { ⌜ Width b ⌝ }
+    requires small { ⌜ (k < 3) × (i < 1024) ⌝ }
+    ensures { λ r. ⌜ r ≡ rootDirectoryWord b n k i ⌝ }
+{
+    if i < threes_for(b, n) {
+        return address(b, PhysicalPage(6 + 3 * i + k)) + 1;
+    }
+    0
+}
+
+// "word 0 first free word index, 1+6n with n threes; then pairs (virtual in parent, physical)"
+pub fn root_list_word(b: u32, n: u32, i: u32) -> u32
+    requires { ⌜ Width b ⌝ }
+    requires small { ⌜ i < 1024 ⌝ }
+    ensures { λ r. ⌜ r ≡ rootListWord b n i ⌝ }
+{
+    let t = threes_for(b, n);
+    if i == 0 {
+        return 1 + 6 * t;
+    }
+    if i % 2 != 0 {
+        return 0;
+    }
+    if 6 * t < i {
+        return 0;
+    }
+    address(b, PhysicalPage(5 + i / 2))
+}
+
+// "it maps exactly the flat pages, with all rights": w is the page table word of virtual page v.
+pub fn root_mapping(b: u32, n: u32, v: VirtualPage, w: u32) -> bool
+    requires { ⌜ Width b ⌝ }
+    ensures {
+        λ r.
+        ⌜
+        r
+        ≡ cond (leb 1 (v .0) && leb (v .0) (flatPages b n))
+        (eqb (pageOf b w) (5 + 3 * threesFor b n + v .0) && eqb (Entry.rights w) allRights)
+        (eqb w 0)
+        ⌝
+    }
+{
+    if v.0 == 0 {
+        return w == 0;
+    }
+    if flat_pages(b, n) < v.0 {
+        return w == 0;
+    }
+    if page_of(b, w).0 != 5 + 3 * threes_for(b, n) + v.0 {
+        return false;
+    }
+    rights(w) == 7
+}

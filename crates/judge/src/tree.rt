@@ -1,0 +1,93 @@
+// "The tree is at most 8 below the root; current is in it." and "Pages 1 to N−1 are each in exactly one hand or one kernel use."
+use crate::addresses::virtual_address;
+use crate::children::child_at;
+use crate::children::child_of;
+use crate::cycle::judge_partition;
+use pages::PhysicalPage;
+use pages::parent;
+use pages::read_word;
+use pages::table_for;
+ghost use mathlib.Core.Path.{_≡_};
+ghost use Prim.Native.Nat.{_-_};
+ghost use lib.Dec.{eqb};
+ghost use lib.ListN.{length, getD};
+ghost use Rattle.walk.specs.Finite.{from, all};
+ghost use Rattle.walk.specs.Walk as W;
+ghost use Rattle.memory.specs.Geometry.{mostDepth};
+ghost use Rattle.memory.specs.Partition.{pages};
+ghost use Rattle.memory.specs.Counts.{children};
+ghost use Rattle.soundness.specs.Test;
+ghost use Rattle.soundness.specs.Test.{own, judged};
+ghost use Rattle.judging.specs.Quick.{partitionTest};
+ghost use Rattle.pages.specs.Width.{Width};
+
+// Each page from 1 on has its mark.
+pub fn all_marked(seen: &[u8]) -> bool
+    ensures { λ r. ⌜ r ≡ all (λ p. eqb (getD (now (seen .entry)) p 0) 1) (from (length (now (seen .entry)) - 1) 1) ⌝ }
+{
+    let mut i = 1;
+    while i < seen.len() {
+        if seen[i] != 1 {
+            return false;
+        }
+        i += 1;
+    }
+    true
+}
+
+// The tree below the root, walked once: every partition passes its test, and every page is used once. seen has no mark at first.
+pub fn tree_test(b: u32, m: &[u32], seen: &mut [u8]) -> bool
+    requires { ⌜ Width b ⌝ }
+    requires size { ⌜ length (now seen) ≡ pages b (now m) ⌝ }
+    ensures {
+        λ r.
+        ⌜
+        r
+        ≡ judged b (now (m .entry)) (W.judge (children b (now (m .entry))) (own b (now (m .entry))) (partitionTest b (now (m .entry))) mostDepth (now (seen .entry)) 1)
+        ⌝
+    }
+{
+    if !judge_partition(b, m, seen, PhysicalPage(1), 8) {
+        return false;
+    }
+    all_marked(seen)
+}
+
+// c is the child that stands where its first word says, in the partition that it says is its parent.
+pub fn placed(b: u32, m: &[u32], c: PhysicalPage) -> bool
+    requires { ⌜ Width b ⌝ }
+    ensures { λ r. ⌜ r ≡ Test.placed b (now (m .entry)) (c .0) ⌝ }
+{
+    let p = parent(b, m, c);
+    let v = read_word(b, m, c, 0);
+    if !virtual_address(b, v) {
+        return false;
+    }
+    if table_for(b, m, p, v) == 0 {
+        return false;
+    }
+    if !child_at(b, m, p, v) {
+        return false;
+    }
+    child_of(b, m, p, v).0 == c.0
+}
+
+// "current is in it": up by the parents' words as far as the root, with a look back down at each step.
+pub fn under(b: u32, m: &[u32], c: PhysicalPage) -> bool
+    requires { ⌜ Width b ⌝ }
+    ensures { λ r. ⌜ r ≡ Test.under b (now (m .entry)) mostDepth (c .0) ⌝ }
+{
+    let mut p = c.0;
+    let mut left: u32 = 8;
+    while 0 < left {
+        if p == 1 {
+            return true;
+        }
+        if !placed(b, m, PhysicalPage(p)) {
+            return false;
+        }
+        p = parent(b, m, PhysicalPage(p)).0;
+        left -= 1;
+    }
+    p == 1
+}
