@@ -84,7 +84,7 @@ def compare_calls(definitions, seed, count, n):
 
 def compare_damage(definitions, text, memory, seed, count):
     verdicts = {}
-    for line in second('damage', seed, count, stdin=text).decode().split('\n')[:-1]:
+    for line in second('damage', seed, count, 'wide', stdin=text).decode().split('\n')[:-1]:
         *changes, verdict = line.replace('broken ', 'broken').split()
         m = list(memory)
         for i in range(0, len(changes), 2):

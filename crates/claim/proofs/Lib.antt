@@ -8,3 +8,4 @@ pub mod Closed
 pub mod Access
 pub mod Kept
 pub mod Permitted
+pub mod Demand3

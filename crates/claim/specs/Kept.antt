@@ -44,7 +44,9 @@ module _ (b : ℕ) (m : List ℕ) where
     -- so the current partition can neither load nor store a kernel page: it is refused by some number
     pub noLoad : (a : ℕ) → KernelPage (pageOf b (mapping b m (current b m) a)) → (r : ℕ) × (answer b m (load a) ≡ no r)
     pub noStore : (a x : ℕ) → KernelPage (pageOf b (mapping b m (current b m) a)) → (r : ℕ) × (answer b m (store a x) ≡ no r)
-    -- "The pages handed to the root are 6+3T to N−1": each is in exactly one hand or serves as exactly one kernel page
+    -- "The pages handed to the root are 6+3T to N−1, F of them."
+    pub handed : 6 + 3 * threesFor b n + flatPages b n ≡ n
+    -- each of them is in exactly one hand or serves as exactly one kernel page
     pub oneUse : (p : ℕ) → 6 + 3 * threesFor b n ≤ p → p < n → (u : Use b m p) × ((w : Use b m p) → (w .part ≡ u .part) × (w .way ≡ u .way))
     -- "In hand + kernel = F"
     pub counted : inHandCount b m + kernelCount b m ≡ flatPages b n

@@ -1,6 +1,7 @@
--- The test of soundness as the code makes it: each table word is looked at once, and nothing is searched for. It agrees with the test of the crate
--- soundness, sentence by sentence (proofs/). Two sentences are told from counts: that no page but the children's kernel pages is inaccessible and not
--- lent, from the number of such pages; that a lent page is mapped in its child once, from each page having exactly one use. Assumes nothing.
+-- The test of soundness as the code makes it: it looks at each table word a fixed number of times and searches for nothing. It agrees with the test of
+-- the crate soundness (proofs/). Two sentences are told from counts: that no page but the children's kernel pages is inaccessible and not lent, from
+-- the number of such pages; that each page lent to a child is mapped in it once, from the number of pages lent and of pages mapped, and from each page
+-- having exactly one use. Assumes nothing.
 use mathlib.Core.List.{List}
 use mathlib.Core.Bool.{Bool, true, cond, not, _&&_, _||_}
 use Prim.Native.Nat.{ℕ, _+_, _*_}
@@ -51,11 +52,19 @@ module _ (b : ℕ) (m : List ℕ) where
   unfoldable pub dueCount : ℕ → ℕ
   dueCount d = sumOf (λ c. 5 + 3 * threes b m c) (children b m d)
 
+  -- how many pages d lends to its child at v, and how many pages d maps
+  unfoldable pub lentCount : ℕ → ℕ → ℕ
+  lentCount d v = length (keep (λ x. eqb (lent b m d x) v) (tabled b m d))
+
+  unfoldable pub mappedCount : ℕ → ℕ
+  mappedCount d = length (keep (λ v. not (eqb (mapping b m d v) 0)) (tabled b m d))
+
   -- what is asked of a partition before its pages are marked
   unfoldable pub partitionTest : ℕ → Bool
   partitionTest d =
       descriptorTest b m d && all (directoryTest b m d) (from (pageWords b) 0) && listTest b m d && threesTest b m d
       && all (cell d) (tabled b m d) && eqb (mapping b m d 0) 0 && eqb (shutCount d) (dueCount d)
+      && (eqb d 1 || eqb (lentCount (parent b m d) (word b m d 0)) (mappedCount d))
 
   unfoldable pub quickTest : Bool
   quickTest =

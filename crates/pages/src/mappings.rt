@@ -51,6 +51,7 @@ pub fn above(b: u32, m: &[u32], d: PhysicalPage, a: u32) -> u32
     table_word(b, m, shadow2(b, m, d), virtual_page(b, a))
 }
 
+// Stores x as the page table word of address a; where the table is absent it does nothing.
 pub fn set_mapping(b: u32, m: &mut [u32], d: PhysicalPage, a: u32, x: u32)
     requires { ⌜ Width b ⌝ }
     ensures { λ r. ⌜ now (m .exit) ≡ setMapping b (now (m .entry)) (d .0) a x ⌝ }
@@ -59,6 +60,7 @@ pub fn set_mapping(b: u32, m: &mut [u32], d: PhysicalPage, a: u32, x: u32)
     put_table_word(b, m, root, virtual_page(b, a), x);
 }
 
+// As its shadow 1 word.
 pub fn set_lent(b: u32, m: &mut [u32], d: PhysicalPage, a: u32, x: u32)
     requires { ⌜ Width b ⌝ }
     ensures { λ r. ⌜ now (m .exit) ≡ setLent b (now (m .entry)) (d .0) a x ⌝ }
@@ -67,6 +69,7 @@ pub fn set_lent(b: u32, m: &mut [u32], d: PhysicalPage, a: u32, x: u32)
     put_table_word(b, m, root, virtual_page(b, a), x);
 }
 
+// As its shadow 2 word.
 pub fn set_above(b: u32, m: &mut [u32], d: PhysicalPage, a: u32, x: u32)
     requires { ⌜ Width b ⌝ }
     ensures { λ r. ⌜ now (m .exit) ≡ setAbove b (now (m .entry)) (d .0) a x ⌝ }

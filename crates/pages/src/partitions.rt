@@ -32,6 +32,8 @@ pub fn current(b: u32, m: &[u32]) -> PhysicalPage
     named(b, m, PhysicalPage(0), 4)
 }
 
+// "pairs of virtual address in the parent and physical address, for descriptor, directory, shadow 1, shadow 2, list; then 0 and the parent's
+// descriptor address": these five name the page that the second word of a pair holds.
 pub fn directory(b: u32, m: &[u32], d: PhysicalPage) -> PhysicalPage
     requires { ⌜ Width b ⌝ }
     ensures { λ r. ⌜ r .0 ≡ Partition.directory b (now (m .entry)) (d .0) ⌝ }

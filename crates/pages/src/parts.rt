@@ -9,6 +9,7 @@ ghost use Rattle.memory.specs.Geometry.{pageWords};
 ghost use Rattle.memory.specs.Words.{overwrite, wipe, fill};
 ghost use Rattle.pages.specs.Width.{Width};
 
+// The smaller of two indices.
 pub fn least(x: usize, y: usize) -> usize
     ensures { λ r. ⌜ r ≡ min x y ⌝ }
 {

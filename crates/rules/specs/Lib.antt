@@ -6,6 +6,7 @@ pub mod Conditions
 pub mod Refusals
 pub mod Effects
 pub mod Calls
+pub mod SameChain
 pub mod Bytes
 pub mod Record
 pub mod Replay

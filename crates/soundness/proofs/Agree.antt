@@ -128,7 +128,7 @@ module _ (b : ℕ) (m : List ℕ) where
   unfolding T.agrees
   agrees? d v a = both (isn't eq?) eq?
 
-  childTest? : (d v c : ℕ) → Tells (T.childTest b m d v c) (S.ChildRight b m d v c)
+  pub childTest? : (d v c : ℕ) → Tells (T.childTest b m d v c) (S.ChildRight b m d v c)
   unfolding T.childTest
   childTest? d v c =
       via (both (both (both (both eq? eq?) eq?)
@@ -150,7 +150,7 @@ module _ (b : ℕ) (m : List ℕ) where
   itself : {t : Bool} → Tells t (t ≡ true)
   itself = ((λ e. e), λ e. e)
 
-  fromParent? : (d v c u : ℕ) → Tells (T.fromParent b m d v c u) (S.FromParent b m d v c u)
+  pub fromParent? : (d v c u : ℕ) → Tells (T.fromParent b m d v c u) (S.FromParent b m d v c u)
   unfolding T.fromParent
   fromParent? d v c u =
       via (both (both (both (both (isn't eq?) eq?) eq?) itself) eq?)
@@ -192,14 +192,14 @@ module _ (b : ℕ) (m : List ℕ) where
   unfolding T.kernelAddress
   kernelAddress? c x = either (any? (from 5 0) (below 5) (λ j. eq?)) (any? (from (3 * threes b m c) 0) (below (3 * threes b m c)) (λ j. eq?))
 
-  abbrev Shut : ℕ → ℕ → Type 0
+  abbrev pub Shut : ℕ → ℕ → Type 0
   Shut d x = (mapping b m d x ≢ 0) × (accessible (mapping b m d x) ≡ 0) × (lent b m d x ≤ 1)
 
   shutAt? : (d x : ℕ) → Tells (T.shutAt b m d x) (Shut d x)
   unfolding T.shutAt
   shutAt? d x = via (both (both (isn't eq?) eq?) le?) (λ ((p, q), r). (p, q, r)) (λ (p, q, r). ((p, q), r))
 
-  kernelShut? : (d c : ℕ) → Tells (T.kernelShut b m d c) ((x : ℕ) → S.KernelAddress b m c x → Shut d x)
+  pub kernelShut? : (d c : ℕ) → Tells (T.kernelShut b m d c) ((x : ℕ) → S.KernelAddress b m c x → Shut d x)
   unfolding T.kernelShut
   kernelShut? d c =
       via (both (all? (from 5 0) (below 5) (λ j. shutAt? d (word b m c (2 * j))))

@@ -20,12 +20,12 @@ use Rattle.memory.specs.Counts as C
 use Rattle.soundness.specs.Test as T
 use Rattle.soundness.proofs.Places.{tabled-is, tabled-once}
 
-length-from : (n i : ℕ) → length (from n i) ≡ n
+pub length-from : (n i : ℕ) → length (from n i) ≡ n
 unfolding from
 length-from zero i = refl
 length-from (suc n) i = ap suc (length-from n (suc i))
 
-from-at : (n i j : ℕ) → j < n → getD (from n i) j 0 ≡ i + j
+pub from-at : (n i j : ℕ) → j < n → getD (from n i) j 0 ≡ i + j
 unfolding from
 from-at zero i j h = absurd (omega arith)
 from-at (suc n) i zero h = omega arith
@@ -60,18 +60,18 @@ module _ (b : ℕ) (m : List ℕ) (d : ℕ) where
   unfolding T.handPages C.handAddresses
   hand-at i h = image-at (λ v. pageOf b (mapping b m d v)) hands i h
 
-  own-length : length (T.own b m d) ≡ 5 + 3 * threes b m d + length hands
+  pub own-length : length (T.own b m d) ≡ 5 + 3 * threes b m d + length hands
   unfolding T.own
   own-length = omega (arith, length-append (fivePages b m d ++ T.listedPages b m d) (T.handPages b m d), length-append (fivePages b m d) (T.listedPages b m d), five-length, listed-length, hand-length)
 
   pub front : length (fivePages b m d ++ T.listedPages b m d) ≡ 5 + 3 * threes b m d
   front = omega (arith, length-append (fivePages b m d) (T.listedPages b m d), five-length, listed-length)
 
-  own-five : (j : ℕ) → j < 5 → getD (T.own b m d) j 0 ≡ getD (fivePages b m d) j 0
+  pub own-five : (j : ℕ) → j < 5 → getD (T.own b m d) j 0 ≡ getD (fivePages b m d) j 0
   unfolding T.own
   own-five j h = List·getD-append (fivePages b m d ++ T.listedPages b m d) (T.handPages b m d) 0 j (omega (arith, front)) ∙ List·getD-append (fivePages b m d) (T.listedPages b m d) 0 j h
 
-  own-listed : (j : ℕ) → j < 3 * threes b m d → getD (T.own b m d) (5 + j) 0 ≡ pageOf b (word b m (list b m d) (2 + 2 * j))
+  pub own-listed : (j : ℕ) → j < 3 * threes b m d → getD (T.own b m d) (5 + j) 0 ≡ pageOf b (word b m (list b m d) (2 + 2 * j))
   unfolding T.own
   own-listed j h =
       List·getD-append (fivePages b m d ++ T.listedPages b m d) (T.handPages b m d) 0 (5 + j) (omega (arith, front))

@@ -29,7 +29,7 @@ module _ (b : ℕ) (m : List ℕ) where
   abbrev pub Good : Type 0
   Good = W.Good (C.children b m) (T.own b m) (T.ok b m) mostDepth (pages b m) 1
 
-  abbrev Spot : ℕ → Type 0
+  abbrev pub Spot : ℕ → Type 0
   Spot p = Tr.Spot (C.children b m) (T.own b m) 1 p
 
   -- ---- a use is a place in the list of a partition's pages
@@ -39,7 +39,7 @@ module _ (b : ℕ) (m : List ℕ) where
       let (i, l, e, w) = of-way b m (u .part) (u .way) p (u .used) in
       (record { depth = u .depth; part = u .part; at = i; tree = tree-to b m (u .tree); bound = l; is = e }, refl, w)
 
-  spot-use : (p : ℕ) (x : Spot p) → (u : Use b m p) × (x .part ≡ u .part) × IsWay b m (x .part) (x .at) (u .way)
+  pub spot-use : (p : ℕ) (x : Spot p) → (u : Use b m p) × (x .part ≡ u .part) × IsWay b m (x .part) (x .at) (u .way)
   spot-use p x =
       let (w, i, h) = way-of b m (x .part) (x .at) p (x .bound) (x .is) in
       (record { depth = x .depth; part = x .part; way = w; tree = to-tree b m (x .tree); used = h }, refl, i)
@@ -60,7 +60,7 @@ module _ (b : ℕ) (m : List ℕ) where
           let k : IsWay b m (x .part) (x .at) (w .way) = subst (λ (a : ℕ). IsWay b m (x .part) a (w .way)) (sym r) (subst (λ (d : ℕ). IsWay b m d (y .at) (w .way)) (sym q) j) in
           (sym e ∙ q ∙ f, same-way b m (x .part) (x .at) (u .way) (w .way) i k)
 
-  sound-from : S.Header b m → S.Root b m → Good → (k : ℕ) × InTree b m k (current b m) → S.Sound b m
+  pub sound-from : S.Header b m → S.Root b m → Good → (k : ℕ) × InTree b m k (current b m) → S.Sound b m
   sound-from h r g c = record {
     header = h;
     forms = λ k d t. part k d t .forms;

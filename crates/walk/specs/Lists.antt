@@ -178,7 +178,7 @@ count-flat f c [] = refl
 count-flat f c (x ∷ l) = omega (arith, count-append c (f x) (flat f l), count-flat f c l)
 
 -- one element taken out
-taken : (f : ℕ → ℕ) (x : ℕ) (l : List ℕ) → 0 < count x l → (m : List ℕ) × ((d : ℕ) → count d l ≡ hit d x + count d m) × (sumOf f l ≡ f x + sumOf f m)
+pub taken : (f : ℕ → ℕ) (x : ℕ) (l : List ℕ) → 0 < count x l → (m : List ℕ) × ((d : ℕ) → count d l ≡ hit d x + count d m) × (sumOf f l ≡ f x + sumOf f m)
 unfolding count sumOf
 taken f x [] h = absurd (omega arith)
 taken f x (y ∷ l) h = elim (ℕ-discrete x y) [

@@ -30,6 +30,13 @@ pub fn sound(mem: &[u32]) -> Result<(), u32> {
     SENTENCES.iter().zip(1..).try_for_each(|(holds, number)| holds(&judged).then_some(()).ok_or(number))
 }
 
+/// The numbers of all broken sentences.
+pub fn broken(mem: &[u32]) -> Vec<u32> {
+    let Some(sizes) = Sizes::of_length(mem.len()) else { return vec![1] };
+    let judged = Judged { mem, sizes, tree: tree(mem) };
+    SENTENCES.iter().zip(1..).filter(|(holds, _)| !holds(&judged)).map(|(_, number)| number).collect()
+}
+
 impl Judged<'_> {
     fn each(&self, holds: impl Fn(&Partition) -> bool) -> bool {
         self.tree.iter().all(|node| holds(&node.partition))

@@ -6,11 +6,11 @@ use second::geometry::PAGE_WORDS;
 use second::make::make;
 use second::random::Random;
 use second::replay::replay;
-use second::sound::sound;
+use second::sound::{broken, sound};
 use std::collections::BTreeMap;
 use std::io::{self, BufWriter, Read, Write};
 
-const USAGE: &str = "trace run | trace make SEED COUNT N | trace cover | trace damage SEED COUNT [wide] | trace replay";
+const USAGE: &str = "trace run | trace make SEED COUNT N | trace cover | trace damage SEED COUNT [wide] | trace replay | trace dump | trace judge";
 
 struct File {
     pages: usize,
@@ -28,6 +28,8 @@ fn main() {
         ["damage", seed, count] => print_damaged(seed, count, false, &mut out),
         ["damage", seed, count, "wide"] => print_damaged(seed, count, true, &mut out),
         ["replay"] => print_replayed(&mut out),
+        ["dump"] => read().and_then(|file| dump(&file, &mut out)),
+        ["judge"] => print_broken(&mut out),
         _ => Err(io::Error::other(USAGE)),
     };
     if let Err(error) = done.and_then(|()| out.flush()) {
@@ -41,6 +43,14 @@ fn print_replayed(out: &mut impl Write) -> io::Result<()> {
     let mut script = Vec::new();
     io::stdin().lock().read_to_end(&mut script)?;
     out.write_all(&replay(&script))
+}
+
+/// The broken sentences of the memory on standard input, little-endian words.
+fn print_broken(out: &mut impl Write) -> io::Result<()> {
+    let mut bytes = Vec::new();
+    io::stdin().lock().read_to_end(&mut bytes)?;
+    let words: Vec<u32> = bytes.chunks_exact(4).map(|b| u32::from_le_bytes([b[0], b[1], b[2], b[3]])).collect();
+    writeln!(out, "{:?}", broken(&words))
 }
 
 fn number(word: &str) -> io::Result<u32> {
@@ -86,6 +96,12 @@ fn run(file: &File, out: &mut impl Write) -> io::Result<()> {
         Err(refusal) => writeln!(out, "no {refusal} {:016x}", hash(mem)),
     })?;
     Ok(())
+}
+
+/// The memory at the end, as little-endian words.
+fn dump(file: &File, out: &mut impl Write) -> io::Result<()> {
+    let mem = perform(file, |_, _, _| Ok(()))?;
+    mem.iter().try_for_each(|word| out.write_all(&word.to_le_bytes()))
 }
 
 /// FNV-1a of 64 bits over the words as little-endian bytes.

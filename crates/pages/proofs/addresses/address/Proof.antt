@@ -1,5 +1,6 @@
-use Rattle.memory.proofs.Widths.{address-by-shift}
+-- `pages::addresses::address` meets its contract. The shift is a product that fits. Assumes nothing.
 use borrow.Author.Needs.{needs}
+use Rattle.memory.proofs.Widths.{address-by-shift}
 use Rattle.pages.proofs.addresses.address.Statement.{statement}
 use Rattle.pages.proofs.addresses.address.Tie as tie
 

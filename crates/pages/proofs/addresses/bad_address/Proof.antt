@@ -1,8 +1,9 @@
-use Rattle.pages.proofs.Laws.{bad-high, bad-low, bad-rest}
-use Rattle.memory.proofs.Widths.{end-shl}
-use native.Mathlib.Omega.{arith}
+-- `pages::addresses::bad_address` meets its contract. Each test that the code makes is one of the definition; the 64-bit shift is the end of the addresses. Assumes nothing.
 use mathlib.Core.Path.{sym}
+use native.Mathlib.Omega.{arith}
 use borrow.Author.Needs.{needs}
+use Rattle.memory.proofs.Widths.{end-shl}
+use Rattle.pages.proofs.Laws.{bad-high, bad-low, bad-rest}
 use Rattle.pages.proofs.addresses.bad_address.Statement.{statement}
 use Rattle.pages.proofs.addresses.bad_address.Tie as tie
 

@@ -1,7 +1,8 @@
-use Rattle.rules.specs.Conditions.{badAddress}
-use Prim.Native.Nat.{ℕ}
+-- `pages::addresses::bad_page` meets its contract. The bytes of a page are the unit. Assumes nothing.
 use mathlib.Core.Path.{ap, _∙_}
+use Prim.Native.Nat.{ℕ}
 use borrow.Author.Needs.{needs}
+use Rattle.rules.specs.Conditions.{badAddress}
 use Rattle.pages.proofs.addresses.bad_page.Statement.{statement}
 use Rattle.pages.proofs.addresses.bad_page.Tie as tie
 

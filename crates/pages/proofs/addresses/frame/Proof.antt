@@ -1,9 +1,9 @@
+-- `pages::addresses::frame` meets its contract. A page number that was cut out of a word has an address, and room for the flags. Assumes nothing.
+use mathlib.Core.Path.{_≡_, ap, _∙_}
+use native.Mathlib.Omega.{arith}
+use borrow.Author.Needs.{needs}
 use Rattle.memory.proofs.Widths.{frame-room}
 use Rattle.memory.specs.Geometry.{address, pageOf}
-use native.Mathlib.Omega.{arith}
-use Prim.Native.Nat.{ℕ}
-use mathlib.Core.Path.{_≡_, ap, _∙_}
-use borrow.Author.Needs.{needs}
 use Rattle.pages.proofs.addresses.frame.Statement.{statement}
 use Rattle.pages.proofs.addresses.frame.Tie as tie
 

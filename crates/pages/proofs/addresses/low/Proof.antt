@@ -1,7 +1,8 @@
-use lib.Pow.{pow-pos}
+-- `pages::addresses::low` meets its contract. The mask is 2 ^ n - 1, at every width n. Assumes nothing.
 use native.Mathlib.Omega.{arith}
-use Rattle.pages.proofs.Laws.{one-bit, low-field}
+use lib.Pow.{pow-pos}
 use borrow.Author.Needs.{needs}
+use Rattle.pages.proofs.Laws.{one-bit, low-field}
 use Rattle.pages.proofs.addresses.low.Statement.{statement}
 use Rattle.pages.proofs.addresses.low.Tie as tie
 

@@ -1,7 +1,8 @@
-use Rattle.memory.proofs.Widths.{bytes-is}
-use Prim.Native.Nat.{ℕ, _%_}
+-- `pages::addresses::place` meets its contract. The field of the lowest b + 2 bits is the place. Assumes nothing.
 use mathlib.Core.Path.{ap, _∙_}
+use Prim.Native.Nat.{ℕ, _%_}
 use borrow.Author.Needs.{needs}
+use Rattle.memory.proofs.Widths.{bytes-is}
 use Rattle.pages.proofs.addresses.place.Statement.{statement}
 use Rattle.pages.proofs.addresses.place.Tie as tie
 

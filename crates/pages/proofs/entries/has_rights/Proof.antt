@@ -1,3 +1,4 @@
+-- `pages::entries::has_rights` meets its contract. The rights are those that `rights` reads. Assumes nothing.
 use borrow.Author.Needs.{needs}
 use Rattle.pages.proofs.entries.has_rights.Statement.{statement}
 use Rattle.pages.proofs.entries.has_rights.Tie as tie

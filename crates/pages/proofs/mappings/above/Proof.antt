@@ -1,3 +1,4 @@
+-- `pages::mappings::above` meets its contract. The root is shadow 2. Assumes nothing.
 use borrow.Author.Needs.{needs}
 use Rattle.pages.proofs.mappings.above.Statement.{statement}
 use Rattle.pages.proofs.mappings.above.Tie as tie

@@ -1,8 +1,7 @@
-use Rattle.pages.proofs.Laws.{hand-absent, hand-shut, hand-rest}
-use native.Mathlib.Omega.{arith}
-use Prim.Native.Nat.{ℕ}
-use mathlib.Core.Path.{_≡_, sym, ap, _∙_}
+-- `pages::mappings::in_hand` meets its contract. Each test that the code makes is one of the definition. Assumes nothing.
+use mathlib.Core.Path.{sym}
 use borrow.Author.Needs.{needs}
+use Rattle.pages.proofs.Laws.{hand-absent, hand-shut, hand-rest}
 use Rattle.pages.proofs.mappings.in_hand.Statement.{statement}
 use Rattle.pages.proofs.mappings.in_hand.Tie as tie
 

@@ -1,3 +1,4 @@
+-- `pages::mappings::set_lent` meets its contract. The root is shadow 1. Assumes nothing.
 use borrow.Author.Needs.{needs}
 use Rattle.pages.proofs.mappings.set_lent.Statement.{statement}
 use Rattle.pages.proofs.mappings.set_lent.Tie as tie

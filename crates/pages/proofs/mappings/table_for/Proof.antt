@@ -1,3 +1,4 @@
+-- `pages::mappings::table_for` meets its contract. The root is the directory. Assumes nothing.
 use borrow.Author.Needs.{needs}
 use Rattle.pages.proofs.mappings.table_for.Statement.{statement}
 use Rattle.pages.proofs.mappings.table_for.Tie as tie

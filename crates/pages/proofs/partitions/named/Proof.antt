@@ -1,3 +1,4 @@
+-- `pages::partitions::named` meets its contract. The word is read, and its page cut out of it. Assumes nothing.
 use borrow.Author.Needs.{needs}
 use Rattle.pages.proofs.partitions.named.Statement.{statement}
 use Rattle.pages.proofs.partitions.named.Tie as tie

@@ -1,9 +1,10 @@
+-- `pages::partitions::threes` meets its contract. A first word of 0 counts no three, as 0 - 1 is 0. Assumes nothing.
+use mathlib.Core.Path.{_≡_, ap}
+use Prim.Native.Nat.{ℕ, _-_, _/_}
+use native.Mathlib.Omega.{arith}
+use borrow.Author.Needs.{needs}
 use Rattle.memory.specs.Partition.{list}
 use Rattle.memory.specs.Words.{word}
-use native.Mathlib.Omega.{arith}
-use Prim.Native.Nat.{ℕ, _-_, _/_}
-use mathlib.Core.Path.{_≡_, ap, _∙_}
-use borrow.Author.Needs.{needs}
 use Rattle.pages.proofs.partitions.threes.Statement.{statement}
 use Rattle.pages.proofs.partitions.threes.Tie as tie
 

@@ -1,11 +1,12 @@
-use borrow.Author.Needs.{needs}
-use borrow.Author.Fill.{fill-none, fill-more}
-use mathlib.Core.Path.{_≡_, sym, _∙_, ap}
+-- `pages::parts::clear` meets its contract. The words passed are 0, and those behind them as they were. The measure is what is left. Assumes nothing.
+use mathlib.Core.Path.{_≡_, _∙_, ap}
 use mathlib.Core.List.{List, _++_, append-nil}
-use lib.Seq.{drop-length}
 use Prim.Native.Nat.{ℕ, _≤_, _<_, _-_}
 use native.Mathlib.Omega.{arith}
+use lib.Seq.{drop-length}
 use lib.ListN.{length, set, drop, replicate, length-set}
+use borrow.Author.Needs.{needs}
+use borrow.Author.Fill.{fill-more}
 use Rattle.pages.proofs.parts.clear.Statement.{statement}
 use Rattle.pages.proofs.parts.clear.Tie as tie
 

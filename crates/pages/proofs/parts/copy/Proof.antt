@@ -1,8 +1,9 @@
-use borrow.Author.Needs.{needs}
-use native.Mathlib.Omega.{arith}
+-- `pages::parts::copy` meets its contract. The words passed are those of ws, and those behind them as they were. The measure is what is left. Assumes nothing.
 use mathlib.Core.Path.{_≡_, _∙_}
 use Prim.Native.Nat.{_≤_, _-_}
+use native.Mathlib.Omega.{arith}
 use lib.ListN.{length, take, length-set}
+use borrow.Author.Needs.{needs}
 use Rattle.memory.specs.Words.{overwrite}
 use Rattle.memory.proofs.Overwrite.{copy-none, copy-more, copy-all}
 use Rattle.pages.proofs.parts.copy.Statement.{statement}

@@ -1,6 +1,7 @@
-use Rattle.memory.proofs.Pages.{fill-back}
+-- `pages::parts::fill_page` meets its contract. The part that was lent comes back filled, and the words around it as they were. Assumes nothing.
 use native.Mathlib.Omega.{arith}
 use borrow.Author.Needs.{needs}
+use Rattle.memory.proofs.Pages.{fill-back}
 use Rattle.pages.proofs.parts.fill_page.Statement.{statement}
 use Rattle.pages.proofs.parts.fill_page.Tie as tie
 

@@ -1,6 +1,7 @@
-use Rattle.memory.proofs.Pages.{wipe-back}
+-- `pages::parts::wipe_page` meets its contract. The part that was lent comes back wiped, and the words around it as they were. Assumes nothing.
 use native.Mathlib.Omega.{arith}
 use borrow.Author.Needs.{needs}
+use Rattle.memory.proofs.Pages.{wipe-back}
 use Rattle.pages.proofs.parts.wipe_page.Statement.{statement}
 use Rattle.pages.proofs.parts.wipe_page.Tie as tie
 

@@ -1,6 +1,7 @@
-use Rattle.memory.proofs.Tables.{tableWord-absent, tableWord-present}
+-- `pages::tables::table_word` meets its contract. By whether the table is there. Assumes nothing.
 use mathlib.Core.Path.{sym}
 use borrow.Author.Needs.{needs}
+use Rattle.memory.proofs.Tables.{tableWord-absent, tableWord-present}
 use Rattle.pages.proofs.tables.table_word.Statement.{statement}
 use Rattle.pages.proofs.tables.table_word.Tie as tie
 

@@ -1,6 +1,7 @@
-use Rattle.memory.proofs.Widths.{words-least}
+-- `pages::widths::page_bytes` meets its contract. Four times the words. Assumes nothing.
 use native.Mathlib.Omega.{arith}
 use borrow.Author.Needs.{needs}
+use Rattle.memory.proofs.Widths.{words-least}
 use Rattle.pages.proofs.widths.page_bytes.Statement.{statement}
 use Rattle.pages.proofs.widths.page_bytes.Tie as tie
 

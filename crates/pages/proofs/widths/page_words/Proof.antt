@@ -1,6 +1,7 @@
-use Rattle.memory.proofs.Widths.{one-shl, words-most}
+-- `pages::widths::page_words` meets its contract. The shift is a power of two that fits. Assumes nothing.
 use native.Mathlib.Omega.{arith}
 use borrow.Author.Needs.{needs}
+use Rattle.memory.proofs.Widths.{one-shl, words-most}
 use Rattle.pages.proofs.widths.page_words.Statement.{statement}
 use Rattle.pages.proofs.widths.page_words.Tie as tie
 

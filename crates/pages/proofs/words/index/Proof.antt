@@ -1,8 +1,9 @@
-use Rattle.memory.proofs.Widths.{page-shl, page-start-lt}
-use native.Mathlib.Omega.{arith}
-use Prim.Native.Nat.{ℕ, _+_}
+-- `pages::words::index` meets its contract. The shift is a product that fits, with room for the place. Assumes nothing.
 use mathlib.Core.Path.{ap}
+use Prim.Native.Nat.{ℕ, _+_}
+use native.Mathlib.Omega.{arith}
 use borrow.Author.Needs.{needs}
+use Rattle.memory.proofs.Widths.{page-shl, page-start-lt}
 use Rattle.pages.proofs.words.index.Statement.{statement}
 use Rattle.pages.proofs.words.index.Tie as tie
 

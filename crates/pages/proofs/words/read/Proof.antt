@@ -1,5 +1,6 @@
-use lib.ListN.{List·getD-eq-default}
+-- `pages::words::read` meets its contract. Past the end the default is read. Assumes nothing.
 use mathlib.Core.Path.{sym}
+use lib.ListN.{List·getD-eq-default}
 use borrow.Author.Needs.{needs}
 use Rattle.pages.proofs.words.read.Statement.{statement}
 use Rattle.pages.proofs.words.read.Tie as tie

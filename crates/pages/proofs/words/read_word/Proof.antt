@@ -1,3 +1,4 @@
+-- `pages::words::read_word` meets its contract. The index is that of word i of page p. Assumes nothing.
 use borrow.Author.Needs.{needs}
 use Rattle.pages.proofs.words.read_word.Statement.{statement}
 use Rattle.pages.proofs.words.read_word.Tie as tie

@@ -1,5 +1,6 @@
-use lib.Seq.{set-out}
+-- `pages::words::write` meets its contract. Past the end nothing is set. Assumes nothing.
 use mathlib.Core.Path.{sym}
+use lib.Seq.{set-out}
 use borrow.Author.Needs.{needs}
 use Rattle.pages.proofs.words.write.Statement.{statement}
 use Rattle.pages.proofs.words.write.Tie as tie

@@ -1,0 +1,15 @@
+pub mod Base
+pub mod Words
+pub mod Abs
+pub mod Facts
+pub mod Read
+pub mod Cells
+pub mod Names
+pub mod Roles
+pub mod Walk
+pub mod Take
+pub mod Format
+pub mod Inv
+pub mod Listing
+pub mod RootWords
+pub mod Chains

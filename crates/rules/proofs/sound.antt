@@ -1,0 +1,13 @@
+pub mod Views
+pub mod Words
+pub mod Tree
+pub mod Pages
+pub mod Forms
+pub mod Root
+pub mod Threes
+pub mod Places
+pub mod Children
+pub mod Lending
+pub mod Kernel
+pub mod Uses
+pub mod All

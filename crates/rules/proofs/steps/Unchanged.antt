@@ -1,0 +1,56 @@
+-- A refused call, a call that leaves every word, and a later format keep the invariant.
+use mathlib.Core.Path.{_≡_, refl, sym, ap, _∙_, subst}
+use mathlib.Core.Logic.{_≢_}
+use mathlib.Core.List.{List}
+use Prim.Native.Nat.{ℕ, zero, suc, _/_, _≤_}
+use native.Mathlib.Nat.{mul-div-left}
+use lib.Pow.{pow-pos}
+use Rattle.memory.specs.Geometry.{pageWords}
+use Rattle.memory.specs.Format.{format}
+use Rattle.rules.specs.Row.{pass}
+use Rattle.rules.specs.Call.{Call, formatAll, pageCount, mappedInChild, load}
+use Rattle.rules.specs.Conditions.{pagesIn}
+use Rattle.rules.specs.Refusals.{refusal}
+use Rattle.rules.specs.Effects.{effect}
+use Rattle.rules.specs.Calls.{after}
+use Rattle.rules.proofs.model.Words.{Sized}
+use Rattle.rules.proofs.model.Inv.{Inv}
+use Rattle.rules.proofs.steps.Formatted.{inv-format}
+
+module _ {b : ℕ} (wide : 6 ≤ b) (m : List ℕ) (i : Inv b m) where
+  -- a call keeps the invariant if its effect does where nothing is refused
+  pub inv-after : (c : Call) → (refusal b m c ≡ 0 → Inv b (effect b m c)) → Inv b (after b m c)
+  unfolding after pass
+  inv-after c f = go (refusal b m c) refl
+    where
+      go : (r : ℕ) → refusal b m c ≡ r → Inv b (pass r (effect b m c) m)
+      go zero e = f e
+      go (suc n) e = i
+
+  pub inv-refused : (c : Call) → refusal b m c ≢ 0 → Inv b (after b m c)
+  inv-refused c n = inv-after c (λ e. absurd (n e))
+
+  pub inv-same : (c : Call) → effect b m c ≡ m → Inv b (after b m c)
+  inv-same c e = inv-after c (λ z. subst (Inv b) (sym e) i)
+
+  pub inv-pageCount : (c t : ℕ) → Inv b (after b m (pageCount c t))
+  unfolding effect
+  inv-pageCount c t = inv-same (pageCount c t) refl
+
+  pub inv-mappedInChild : (p : ℕ) → Inv b (after b m (mappedInChild p))
+  unfolding effect
+  inv-mappedInChild p = inv-same (mappedInChild p) refl
+
+  pub inv-load : (a : ℕ) → Inv b (after b m (load a))
+  unfolding effect
+  inv-load a = inv-same (load a) refl
+
+  -- ---- a later format
+
+  pub pages-in : pagesIn b m ≡ i .N
+  unfolding Sized
+  pages-in = ap (λ (x : ℕ). x / pageWords b) (i .words .sized) ∙ mul-div-left (i .N) (pow-pos b)
+
+  pub inv-formatAll : Inv b (after b m formatAll)
+  unfolding effect
+  inv-formatAll = inv-after formatAll (λ z. subst (λ (n : ℕ). Inv b (format b n)) (sym pages-in) (inv-format wide (i .N) (i .least) (i .most)))

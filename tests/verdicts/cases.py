@@ -1,0 +1,60 @@
+"""Memories to be judged: calls from format, then changed words. For each soundness sentence one memory that breaks just that sentence, and sound ones.
+
+Numbers of pages for N = 40: root virtual page v is page 8 + v; the child is page 9 with its three in pages 14 to 16, the grandchild page 17 with its
+three in pages 22 to 24, and root page 17 is lent through both."""
+
+FAMILY = [[1, 256, 512, 768, 1024, 1280], [12, 1536, 1792], [12, 1792, 2048], [6, 256, 4096, 1536],
+          [3, 2304, 256, 4096, 7], [3, 2560, 256, 4352, 7], [3, 2816, 256, 4608, 7], [3, 3072, 256, 4864, 7], [3, 3328, 256, 5120, 7],
+          [3, 3584, 256, 5376, 7], [3, 3840, 256, 5632, 7], [3, 4096, 256, 5888, 7], [3, 4352, 256, 6144, 3],
+          [9, 256], [1, 4096, 4352, 4608, 4864, 5120], [12, 5376, 5632], [12, 5632, 5888], [6, 4096, 8192, 5376], [3, 6144, 4096, 8192, 1], [10]]
+SECOND_CHILD = [[1, 4608, 4864, 5120, 5376, 5632]]
+
+
+def at(page, word, value):
+    return (64 * page + word, value)
+
+
+def deep():
+    """A chain of partitions down to 8 below the root, each in its parent's pages; the last is current. Every page goes down level by level."""
+    calls, base = [], 256
+    for level in range(8):
+        # this level's own pages stand from virtual page 1 on (root) or from page 64 on (below); the first eight serve the child
+        first = 256 if level == 0 else 64 * 256
+        a = [first + 256 * i for i in range(8)]
+        calls += [[1] + a[:5], [12, a[5], a[6]], [12, a[6], a[7]], [6, a[0], 64 * 256, a[5]]]
+        left = 8 * (8 - level - 1)
+        calls += [[3, first + 256 * (8 + i), a[0], 64 * 256 + 256 * i, 7] for i in range(left)]
+        calls += [[9, a[0]]]
+    return calls
+
+
+def broad(n):
+    """n children of the root, each with a page lent to it."""
+    calls, v = [], 1
+    for _ in range(n):
+        a = [256 * (v + i) for i in range(9)]
+        calls += [[1] + a[:5], [12, a[5], a[6]], [12, a[6], a[7]], [6, a[0], 4096, a[5]], [3, a[8], a[0], 4096, 3]]
+        v += 9
+    return calls
+
+
+# name, N, calls, changed words, the sentences that it breaks
+CASES = [
+    ('fresh, 16 pages', 16, [], [], []),
+    ('fresh, 72 pages', 72, [], [], []),
+    ('fresh, 73 pages', 73, [], [], []),
+    ('fresh, 256 pages', 256, [], [], []),
+    ('a grandchild, a page lent on', 40, FAMILY, [], []),
+    ('eight deep', 256, deep(), [], []),
+    ('broad', 256, broad(26), [], []),
+    ('a word of a page in hand', 40, FAMILY, [at(38, 5, 4294967295)], []),
+    ('1: a header word past the fifth', 40, FAMILY, [at(0, 60, 1)], [1]),
+    ('2: a right of the root gone', 40, FAMILY, [at(6, 30, 9743)], [2]),
+    ('3: a three listed in another order', 40, FAMILY, [at(13, 3, 2048), at(13, 4, 4096), at(13, 5, 1792), at(13, 6, 3840)], [3]),
+    ("4: a child's parent another page", 40, FAMILY, [at(9, 11, 512)], [4]),
+    ('5: current no partition', 40, FAMILY, [at(0, 4, 2560)], [5]),
+    ('6: a right added', 40, FAMILY, [at(22, 32, 6431)], [6]),
+    ("7: a child's descriptor accessible", 40, FAMILY, [at(6, 1, 2335)], [7]),
+    ('8: one page in two kernel uses', 40, FAMILY + SECOND_CHILD, [at(26, 6, 5120), at(26, 7, 7168), at(6, 21, 7455)], [8]),
+    ('9: a shadow 2 word with no mapping', 40, FAMILY, [at(16, 3, 256)], [9]),
+]
