@@ -1,3 +1,4 @@
+use native.Mathlib.Omega.{arith}
 -- `record::writer::write` meets its contract. Each test that the code makes is one of the row. Assumes nothing.
 use mathlib.Core.Path.{sym, _∙_}
 use borrow.Author.Tests.{not-true, not-false}
@@ -14,15 +15,15 @@ returns c =
 returns-2 : tie.Need-returns-2
 returns-2 c =
     let s = c .before .before .before .before .before in
-    short-revision (s .args .b) (s .args .m .now) (s .args .revision .now) (s .args .out .now) (sym (not-false _ (c .before .if1 .left)) ∙ s .pre .1) (c .if2 .taken)
+    short-revision (s .args .b) (s .args .m .now) (s .args .revision .now) (s .args .out .now) (sym (not-false _ (c .before .if1 .left)) ∙ s .pre .1) (omega arith)
 
 returns-3 : tie.Need-returns-3
 returns-3 c =
     let s = c .before .before .before .before .before .before in
-    short-buffer (s .args .b) (s .args .m .now) (s .args .revision .now) (s .args .out .now) (sym (not-false _ (c .before .before .if1 .left)) ∙ s .pre .1) (c .before .if2 .left) (c .if3 .taken)
+    short-buffer (s .args .b) (s .args .m .now) (s .args .revision .now) (s .args .out .now) (sym (not-false _ (c .before .before .if1 .left)) ∙ s .pre .1) (omega arith) (omega arith)
 
 fill-requires : tie.Need-fill-requires
-fill-requires c κs = (c .before .before .before .before .before .before .before .pre .0, (sym (c .before .before .before .before .before .before .before .pre .1) ∙ not-false _ (c .before .before .before .if1 .left), (c .before .before .if2 .left, c .before .if3 .left)))
+fill-requires c κs = (c .before .before .before .before .before .before .before .pre .0, (sym (c .before .before .before .before .before .before .before .pre .1) ∙ not-false _ (c .before .before .before .if1 .left), (omega arith, omega arith)))
 
 same-length : tie.Need-same-length
 same-length c = search needs
@@ -30,7 +31,7 @@ same-length c = search needs
 returns-4 : tie.Need-returns-4
 returns-4 c =
     let s = c .before .before .before .before .before .before .before .before .before .before in
-    let w = written (s .args .b) (s .args .m .now) (s .args .revision .now) (s .args .out .now) (sym (not-false _ (c .before .before .before .before .before .before .if1 .left)) ∙ s .pre .1) (c .before .before .before .before .before .if2 .left) (c .before .before .before .before .if3 .left) in
+    let w = written (s .args .b) (s .args .m .now) (s .args .revision .now) (s .args .out .now) (sym (not-false _ (c .before .before .before .before .before .before .if1 .left)) ∙ s .pre .1) (omega arith) (omega arith) in
     (w .0, c .before .before .fill .ensures ∙ w .1)
 
 pub write-spec : {M : Type 1} → statement M
