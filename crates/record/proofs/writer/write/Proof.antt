@@ -1,6 +1,6 @@
-use native.Mathlib.Omega.{arith}
 -- `record::writer::write` meets its contract. Each test that the code makes is one of the row. Assumes nothing.
 use mathlib.Core.Path.{sym, _∙_}
+use native.Mathlib.Omega.{arith}
 use borrow.Author.Tests.{not-true, not-false}
 use borrow.Author.Needs.{needs}
 use Rattle.record.proofs.Writing.{not-sound, short-revision, short-buffer, written}
