@@ -1,8 +1,8 @@
 -- "a definition gives this paper's number and values for each of the enum's cases": what an answer of the code stands for. Assumes nothing.
-use Rattle.rules.specs.Refusal.{number, DAMAGED, SIZE, ADDRESS, TWICE, CHILD, RIGHTS, HAND, TABLE, TAKEN, LIST, CHAIN, FULL-TABLE, DEPTH, ROOT, UNMAPPED, KERNEL}
+use Rattle.rules.specs.Refusal.{number, DAMAGED, SIZE, ADDRESS, TWICE, CHILD, RIGHTS, HAND, TABLE, TAKEN, LIST, CHAIN, FULL-TABLE, DEPTH, ROOT, UNMAPPED, KERNEL, SHORT, MAGIC}
 use Rattle.rules.specs.Row as Row
 use Rattle.answers.specs.declared.Answer.{Answer}
-use Rattle.answers.specs.declared.Answer.the-variants.{Done, Damaged, Size, Address, Twice, Child, Rights, Hand, Table, Taken, List, Chain, FullTable, Depth, Root, Unmapped, Kernel}
+use Rattle.answers.specs.declared.Answer.the-variants.{Done, Damaged, Size, Address, Twice, Child, Rights, Hand, Table, Taken, List, Chain, FullTable, Depth, Root, Unmapped, Kernel, Short, Magic}
 
 abbrev pub said : Answer → Row.Answer
 said (Done x) = Row.ok x
@@ -22,3 +22,5 @@ said Depth = Row.no (number DEPTH)
 said Root = Row.no (number ROOT)
 said Unmapped = Row.no (number UNMAPPED)
 said Kernel = Row.no (number KERNEL)
+said Short = Row.no (number SHORT)
+said Magic = Row.no (number MAGIC)

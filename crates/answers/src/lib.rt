@@ -22,11 +22,13 @@ pub enum Answer {
     Root,
     Unmapped,
     Kernel,
+    Short,
+    Magic,
 }
 
 // The answer by a refusal's number, 0 where nothing is refused; x is the word of a call that is done.
 pub fn reply(n: u32, x: u32) -> Answer
-    requires { ⌜ n ≤ 16 ⌝ }
+    requires { ⌜ n ≤ 18 ⌝ }
     ensures { λ r. ⌜ said r ≡ Row.reply n x ⌝ }
 {
     match n {
@@ -46,6 +48,8 @@ pub fn reply(n: u32, x: u32) -> Answer
         13 => Answer::Depth,
         14 => Answer::Root,
         15 => Answer::Unmapped,
-        _ => Answer::Kernel,
+        16 => Answer::Kernel,
+        17 => Answer::Short,
+        _ => Answer::Magic,
     }
 }

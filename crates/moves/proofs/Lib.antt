@@ -3,3 +3,4 @@ pub mod Groups
 pub mod Tests
 pub mod Whole
 pub mod Parts
+pub mod Child

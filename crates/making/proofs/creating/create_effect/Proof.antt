@@ -1,9 +1,10 @@
-use Rattle.making.proofs.Create.{effect-is}
-use Rattle.memory.proofs.Widths.{words-least}
-use lib.ListN.{length}
-use native.Mathlib.Omega.{arith}
+-- `making::creating::create_effect` meets its contract. What each call leaves is what the definition has next. Assumes nothing.
 use mathlib.Core.Path.{_≡_}
+use native.Mathlib.Omega.{arith}
 use borrow.Author.Needs.{needs}
+use lib.ListN.{length}
+use Rattle.memory.proofs.Widths.{words-least}
+use Rattle.making.proofs.Create.{effect-is}
 use Rattle.making.proofs.creating.create_effect.Statement.{statement}
 use Rattle.making.proofs.creating.create_effect.Tie as tie
 

@@ -1,8 +1,9 @@
-use Rattle.moves.proofs.Whole.{answer-refused, after-refused, answer-done, after-done}
-use Rattle.rules.specs.Calls.{result}
-use Rattle.making.specs.Group.{creating}
-use mathlib.Core.Path.{_≡_, refl, sym, _∙_}
+-- `making::creating::create_partition` meets its contract. By whether there is a refusal. Assumes nothing.
+use mathlib.Core.Path.{refl, _∙_}
 use borrow.Author.Needs.{needs}
+use Rattle.rules.specs.Calls.{result}
+use Rattle.moves.proofs.Whole.{answer-refused, after-refused, answer-done, after-done}
+use Rattle.making.specs.Group.{creating}
 use Rattle.making.proofs.creating.create_partition.Statement.{statement}
 use Rattle.making.proofs.creating.create_partition.Tie as tie
 

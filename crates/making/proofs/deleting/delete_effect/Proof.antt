@@ -1,11 +1,10 @@
-use Rattle.making.proofs.Delete.{few-at, saved-part, effect-is}
-use Rattle.memory.specs.Partition.{list}
-use Rattle.memory.specs.Words.{word}
-use lib.ListN.{take, replicate}
-use Prim.Native.Nat.{ℕ, _-_, _≤_}
+-- `making::deleting::delete_effect` meets its contract. What each call leaves is what the definition has next; the words saved are those that the definition reads. Assumes nothing.
+use Prim.Native.Nat.{ℕ, _-_}
 use native.Mathlib.Omega.{arith}
-use mathlib.Core.Path.{_≡_, ap, _∙_}
 use borrow.Author.Needs.{needs}
+use lib.ListN.{take, replicate}
+use Rattle.memory.specs.Partition.{list}
+use Rattle.making.proofs.Delete.{few-at, saved-part, effect-is}
 use Rattle.making.proofs.deleting.delete_effect.Statement.{statement}
 use Rattle.making.proofs.deleting.delete_effect.Tie as tie
 

@@ -1,9 +1,10 @@
-use Rattle.making.proofs.Few.{child-some, child-few}
-use Rattle.moves.proofs.Whole.{answer-refused, after-refused, answer-done, after-done}
+-- `making::deleting::delete_partition` meets its contract. By whether there is a refusal. A child that is not refused lists ten threes at most. Assumes nothing.
+use mathlib.Core.Path.{refl, sym, _∙_}
+use borrow.Author.Needs.{needs}
 use Rattle.rules.specs.Calls.{result}
 use Rattle.rules.specs.Call.{deletePartition}
-use mathlib.Core.Path.{_≡_, refl, sym, _∙_}
-use borrow.Author.Needs.{needs}
+use Rattle.moves.proofs.Whole.{answer-refused, after-refused, answer-done, after-done}
+use Rattle.making.proofs.Few.{child-some, child-few}
 use Rattle.making.proofs.deleting.delete_partition.Statement.{statement}
 use Rattle.making.proofs.deleting.delete_partition.Tie as tie
 

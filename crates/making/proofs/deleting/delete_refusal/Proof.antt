@@ -1,9 +1,10 @@
-use Rattle.making.proofs.Delete.{refusal-is}
-use Rattle.rules.proofs.Rows.{First, on, at, none}
-use native.Mathlib.Omega.{arith}
+-- `making::deleting::delete_refusal` meets its contract. At each return the tests passed were false, and the last one true. Assumes nothing.
+use mathlib.Core.Path.{sym, ap, _∙_}
 use mathlib.Core.Bool.{not}
-use mathlib.Core.Path.{_≡_, sym, ap, _∙_}
+use native.Mathlib.Omega.{arith}
 use borrow.Author.Needs.{needs}
+use Rattle.rules.proofs.Rows.{on, at, none}
+use Rattle.making.proofs.Delete.{refusal-is}
 use Rattle.making.proofs.deleting.delete_refusal.Statement.{statement}
 use Rattle.making.proofs.deleting.delete_refusal.Tie as tie
 

@@ -1,12 +1,13 @@
-use Rattle.making.proofs.Delete.{returnEvens-more, returnEvens-end}
+-- `making::deleting::return_evens` meets its contract. To return the pairs left, from the memory as it is, is to return them all. The measure is what is left. Assumes nothing.
+use mathlib.Core.Path.{_≡_, refl, sym, ap, _∙_}
+use mathlib.Core.List.{List}
+use Prim.Native.Nat.{ℕ, _+_, _-_, _≤_}
+use native.Mathlib.Omega.{arith}
+use borrow.Author.Needs.{needs}
+use lib.ListN.{length, drop}
 use Rattle.rules.specs.Effects.{evens}
 use Rattle.rules.specs.Moves.{returnAll}
-use lib.ListN.{length, drop}
-use native.Mathlib.Omega.{arith}
-use Prim.Native.Nat.{ℕ, _+_, _-_, _≤_}
-use mathlib.Core.List.{List}
-use mathlib.Core.Path.{_≡_, refl, sym, ap, _∙_}
-use borrow.Author.Needs.{needs}
+use Rattle.making.proofs.Delete.{returnEvens-more, returnEvens-end}
 use Rattle.making.proofs.deleting.return_evens.Statement.{statement}
 use Rattle.making.proofs.deleting.return_evens.Tie as tie
 

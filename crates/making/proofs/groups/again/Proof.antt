@@ -1,13 +1,14 @@
-use Rattle.moves.proofs.Groups.{any-here, any-next, any-end}
-use Rattle.walk.specs.Finite.{any}
-use lib.ListN.{length, getD, drop}
-use lib.Dec.{eqb}
-use native.Mathlib.Omega.{arith}
-use Prim.Native.Nat.{_-_, _≤_}
-use mathlib.Core.Bool.{true, false}
+-- `making::groups::again` meets its contract. x is not among the addresses passed. The measure is what is left. Assumes nothing.
 use mathlib.Core.Path.{_≡_, refl, sym, _∙_}
+use mathlib.Core.Bool.{true, false}
+use Prim.Native.Nat.{_-_, _≤_}
+use native.Mathlib.Omega.{arith}
 use borrow.Author.Tests.{eq-eqb, ne-eqb}
 use borrow.Author.Needs.{needs}
+use lib.ListN.{length, getD, drop}
+use lib.Dec.{eqb}
+use Rattle.walk.specs.Finite.{any}
+use Rattle.moves.proofs.Groups.{any-here, any-next, any-end}
 use Rattle.making.proofs.groups.again.Statement.{statement}
 use Rattle.making.proofs.groups.again.Tie as tie
 

@@ -1,11 +1,12 @@
-use Rattle.moves.proofs.Groups.{any-here, any-next, any-end}
-use Rattle.rules.specs.Conditions.{lacks}
-use Rattle.walk.specs.Finite.{any}
-use lib.ListN.{length, drop}
-use native.Mathlib.Omega.{arith}
-use Prim.Native.Nat.{_-_, _≤_}
+-- `making::groups::any_lacks` meets its contract. Each address passed has the rights. The measure is what is left. Assumes nothing.
 use mathlib.Core.Path.{_≡_, refl, sym, _∙_}
+use Prim.Native.Nat.{_-_, _≤_}
+use native.Mathlib.Omega.{arith}
 use borrow.Author.Needs.{needs}
+use lib.ListN.{length, drop}
+use Rattle.walk.specs.Finite.{any}
+use Rattle.rules.specs.Conditions.{lacks}
+use Rattle.moves.proofs.Groups.{any-here, any-next, any-end}
 use Rattle.making.proofs.groups.any_lacks.Statement.{statement}
 use Rattle.making.proofs.groups.any_lacks.Tie as tie
 

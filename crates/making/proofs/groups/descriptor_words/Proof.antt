@@ -1,6 +1,7 @@
-use Rattle.making.proofs.Create.{descriptor-is}
+-- `making::groups::descriptor_words` meets its contract. Each second word is the frame of the address before it. Assumes nothing.
 use native.Mathlib.Omega.{arith}
 use borrow.Author.Needs.{needs}
+use Rattle.making.proofs.Create.{descriptor-is}
 use Rattle.making.proofs.groups.descriptor_words.Statement.{statement}
 use Rattle.making.proofs.groups.descriptor_words.Tie as tie
 

@@ -1,3 +1,4 @@
+-- `making::groups::frame_at` meets its contract. The frame is that of the page of the word of partition d. Assumes nothing.
 use borrow.Author.Needs.{needs}
 use Rattle.making.proofs.groups.frame_at.Statement.{statement}
 use Rattle.making.proofs.groups.frame_at.Tie as tie

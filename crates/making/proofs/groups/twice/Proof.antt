@@ -1,10 +1,11 @@
-use Rattle.making.proofs.Twice.{twice-here, twice-next, twice-end}
-use Rattle.rules.specs.Conditions.{twice}
-use lib.ListN.{length, drop}
-use native.Mathlib.Omega.{arith}
-use Prim.Native.Nat.{_-_, _≤_}
+-- `making::groups::twice` meets its contract. No address passed stands again behind it. The measure is what is left. Assumes nothing.
 use mathlib.Core.Path.{_≡_, refl, sym, _∙_}
+use Prim.Native.Nat.{_-_, _≤_}
+use native.Mathlib.Omega.{arith}
 use borrow.Author.Needs.{needs}
+use lib.ListN.{length, drop}
+use Rattle.rules.specs.Conditions.{twice}
+use Rattle.making.proofs.Twice.{twice-here, twice-next, twice-end}
 use Rattle.making.proofs.groups.twice.Statement.{statement}
 use Rattle.making.proofs.groups.twice.Tie as tie
 

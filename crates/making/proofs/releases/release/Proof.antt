@@ -1,6 +1,6 @@
-use Rattle.rules.proofs.Releases.{release-shut, release-open}
-use mathlib.Core.Path.{_≡_, sym, _∙_}
+-- `making::releases::release` meets its contract. By whether the page is accessible. Assumes nothing.
 use borrow.Author.Needs.{needs}
+use Rattle.rules.proofs.Releases.{release-shut, release-open}
 use Rattle.making.proofs.releases.release.Statement.{statement}
 use Rattle.making.proofs.releases.release.Tie as tie
 

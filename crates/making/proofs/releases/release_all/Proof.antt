@@ -1,10 +1,11 @@
-use Rattle.rules.proofs.Releases.{releaseFrom, releaseFrom-start, releaseFrom-more, releaseFrom-end}
-use lib.ListN.{length}
-use native.Mathlib.Omega.{arith}
-use Prim.Native.Nat.{ℕ, _+_, _-_, _≤_}
-use mathlib.Core.List.{List}
+-- `making::releases::release_all` meets its contract. To release the tables left, from the memory as it is, is to release them all. The measure is what is left. Assumes nothing.
 use mathlib.Core.Path.{_≡_, sym, ap, _∙_}
+use mathlib.Core.List.{List}
+use Prim.Native.Nat.{ℕ, _+_, _-_, _≤_}
+use native.Mathlib.Omega.{arith}
 use borrow.Author.Needs.{needs}
+use lib.ListN.{length}
+use Rattle.rules.proofs.Releases.{releaseFrom, releaseFrom-start, releaseFrom-more, releaseFrom-end}
 use Rattle.making.proofs.releases.release_all.Statement.{statement}
 use Rattle.making.proofs.releases.release_all.Tie as tie
 

@@ -1,6 +1,7 @@
-use Rattle.rules.proofs.Releases.{releasing-its, releasing-other}
-use mathlib.Core.Path.{_≡_, sym, _∙_}
+-- `making::releases::release_if` meets its contract. By whether the page is lent to the child. Assumes nothing.
+use mathlib.Core.Path.{sym}
 use borrow.Author.Needs.{needs}
+use Rattle.rules.proofs.Releases.{releasing-its, releasing-other}
 use Rattle.making.proofs.releases.release_if.Statement.{statement}
 use Rattle.making.proofs.releases.release_if.Tie as tie
 

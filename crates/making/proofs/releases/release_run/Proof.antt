@@ -1,10 +1,11 @@
+-- `making::releases::release_run` meets its contract. To release the pages left, from the memory as it is, is to release them all. The measure is what is left. Assumes nothing.
+use mathlib.Core.Path.{_≡_, sym, _∙_}
+use Prim.Native.Nat.{_+_, _-_, _≤_}
+use native.Mathlib.Omega.{arith}
+use borrow.Author.Needs.{needs}
+use lib.ListN.{length}
 use Rattle.rules.proofs.Releases.{releaseAll-more, releaseAll-none, square-most, page-address-fits}
 use Rattle.rules.specs.Effects.{releaseAll}
-use lib.ListN.{length}
-use native.Mathlib.Omega.{arith}
-use Prim.Native.Nat.{ℕ, _+_, _-_, _≤_}
-use mathlib.Core.Path.{_≡_, refl, sym, ap, _∙_}
-use borrow.Author.Needs.{needs}
 use Rattle.making.proofs.releases.release_run.Statement.{statement}
 use Rattle.making.proofs.releases.release_run.Tie as tie
 

@@ -1,13 +1,14 @@
-use Rattle.rules.proofs.Releases.{releaseAll-absent, table-inside}
-use Rattle.rules.specs.Effects.{releaseAll}
+-- `making::releases::release_table` meets its contract. Nothing is lent where there is no table. Assumes nothing.
+use mathlib.Core.Path.{_≡_, sym, ap, _∙_}
+use Prim.Native.Nat.{ℕ, _*_, _≤_}
+use native.Mathlib.Omega.{arith}
+use native.Mathlib.Nat.{mul-le-mul}
+use borrow.Author.Needs.{needs}
 use Rattle.memory.proofs.Widths.{words-most}
 use Rattle.memory.specs.Words.{word}
 use Rattle.memory.specs.Geometry.{pageWords}
-use native.Mathlib.Omega.{arith}
-use native.Mathlib.Nat.{mul-le-mul}
-use Prim.Native.Nat.{ℕ, _*_, _≤_}
-use mathlib.Core.Path.{_≡_, sym, ap, ap₂, _∙_}
-use borrow.Author.Needs.{needs}
+use Rattle.rules.proofs.Releases.{releaseAll-absent, table-inside}
+use Rattle.rules.specs.Effects.{releaseAll}
 use Rattle.making.proofs.releases.release_table.Statement.{statement}
 use Rattle.making.proofs.releases.release_table.Tie as tie
 

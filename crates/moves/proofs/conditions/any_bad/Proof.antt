@@ -1,11 +1,12 @@
-use Rattle.moves.proofs.Groups.{any-here, any-next, any-end}
-use Rattle.rules.specs.Conditions.{badPage}
-use Rattle.walk.specs.Finite.{any}
-use lib.ListN.{length, drop}
-use native.Mathlib.Omega.{arith}
-use Prim.Native.Nat.{_-_, _≤_}
+-- `moves::conditions::any_bad` meets its contract. No address passed is bad. The measure is what is left. Assumes nothing.
 use mathlib.Core.Path.{_≡_, refl, sym, _∙_}
+use Prim.Native.Nat.{_-_, _≤_}
+use native.Mathlib.Omega.{arith}
 use borrow.Author.Needs.{needs}
+use lib.ListN.{length, drop}
+use Rattle.walk.specs.Finite.{any}
+use Rattle.rules.specs.Conditions.{badPage}
+use Rattle.moves.proofs.Groups.{any-here, any-next, any-end}
 use Rattle.moves.proofs.conditions.any_bad.Statement.{statement}
 use Rattle.moves.proofs.conditions.any_bad.Tie as tie
 

@@ -1,3 +1,4 @@
+-- `moves::conditions::child_of` meets its contract. The page is that of the word of the caller. Assumes nothing.
 use borrow.Author.Needs.{needs}
 use Rattle.moves.proofs.conditions.child_of.Statement.{statement}
 use Rattle.moves.proofs.conditions.child_of.Tie as tie

@@ -1,3 +1,4 @@
+-- `moves::conditions::inaccessible` meets its contract. The word is that of the caller. Assumes nothing.
 use borrow.Author.Needs.{needs}
 use Rattle.moves.proofs.conditions.inaccessible.Statement.{statement}
 use Rattle.moves.proofs.conditions.inaccessible.Tie as tie

@@ -1,3 +1,4 @@
+-- `moves::conditions::lacks` meets its contract. The word is that of the caller. Assumes nothing.
 use borrow.Author.Needs.{needs}
 use Rattle.moves.proofs.conditions.lacks.Statement.{statement}
 use Rattle.moves.proofs.conditions.lacks.Tie as tie

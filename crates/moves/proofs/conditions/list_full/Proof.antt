@@ -1,5 +1,6 @@
-use Rattle.moves.proofs.Tests.{full-there, full-absent}
+-- `moves::conditions::list_full` meets its contract. Each test that the code makes is one of the definition. Assumes nothing.
 use borrow.Author.Needs.{needs}
+use Rattle.moves.proofs.Tests.{full-there, full-absent}
 use Rattle.moves.proofs.conditions.list_full.Statement.{statement}
 use Rattle.moves.proofs.conditions.list_full.Tie as tie
 

@@ -1,3 +1,4 @@
+-- `moves::conditions::no_child` meets its contract. The word is that of the caller. Assumes nothing.
 use borrow.Author.Needs.{needs}
 use Rattle.moves.proofs.conditions.no_child.Statement.{statement}
 use Rattle.moves.proofs.conditions.no_child.Tie as tie

@@ -1,3 +1,4 @@
+-- `moves::conditions::no_three` meets its contract. The word is that of the directory. Assumes nothing.
 use borrow.Author.Needs.{needs}
 use Rattle.moves.proofs.conditions.no_three.Statement.{statement}
 use Rattle.moves.proofs.conditions.no_three.Tie as tie

@@ -1,3 +1,4 @@
+-- `moves::conditions::not_in_hand` meets its contract. The hand is that of the caller. Assumes nothing.
 use borrow.Author.Needs.{needs}
 use Rattle.moves.proofs.conditions.not_in_hand.Statement.{statement}
 use Rattle.moves.proofs.conditions.not_in_hand.Tie as tie

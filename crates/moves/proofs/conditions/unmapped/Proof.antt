@@ -1,3 +1,4 @@
+-- `moves::conditions::unmapped` meets its contract. The word is that of the page table. Assumes nothing.
 use borrow.Author.Needs.{needs}
 use Rattle.moves.proofs.conditions.unmapped.Statement.{statement}
 use Rattle.moves.proofs.conditions.unmapped.Tie as tie

@@ -1,5 +1,6 @@
-use Rattle.rules.specs.Moves.{returnPage}
+-- `moves::pages_moved::return_page` meets its contract. Wiped, and then marked. Assumes nothing.
 use borrow.Author.Needs.{needs}
+use Rattle.rules.specs.Moves.{returnPage}
 use Rattle.moves.proofs.pages_moved.return_page.Statement.{statement}
 use Rattle.moves.proofs.pages_moved.return_page.Tie as tie
 

@@ -1,11 +1,12 @@
-use mathlib.Core.List.{List}
+-- `moves::pages_moved::take_all` meets its contract. To take the pages left, from the memory as it is, is to take them all. The measure is what is left. Assumes nothing.
 use mathlib.Core.Path.{_≡_, refl, sym, ap, _∙_}
+use mathlib.Core.List.{List}
 use Prim.Native.Nat.{ℕ, _+_, _-_, _≤_}
-use Rattle.rules.proofs.Releases.{takeAll-more, takeAll-end}
-use Rattle.rules.specs.Moves.{takeAll}
-use lib.ListN.{length, drop}
 use native.Mathlib.Omega.{arith}
 use borrow.Author.Needs.{needs}
+use lib.ListN.{length, drop}
+use Rattle.rules.proofs.Releases.{takeAll-more, takeAll-end}
+use Rattle.rules.specs.Moves.{takeAll}
 use Rattle.moves.proofs.pages_moved.take_all.Statement.{statement}
 use Rattle.moves.proofs.pages_moved.take_all.Tie as tie
 

@@ -1,5 +1,6 @@
-use Rattle.rules.specs.Moves.{takePage}
+-- `moves::pages_moved::take_page` meets its contract. Wiped, and then marked. Assumes nothing.
 use borrow.Author.Needs.{needs}
+use Rattle.rules.specs.Moves.{takePage}
 use Rattle.moves.proofs.pages_moved.take_page.Statement.{statement}
 use Rattle.moves.proofs.pages_moved.take_page.Tie as tie
 

@@ -1,3 +1,4 @@
+-- `moves::pages_moved::wipe_at` meets its contract. The page is that of the word of partition d. Assumes nothing.
 use borrow.Author.Needs.{needs}
 use Rattle.moves.proofs.pages_moved.wipe_at.Statement.{statement}
 use Rattle.moves.proofs.pages_moved.wipe_at.Tie as tie

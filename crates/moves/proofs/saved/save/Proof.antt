@@ -1,12 +1,13 @@
-use Rattle.moves.proofs.Parts.{part-of-page}
-use Rattle.memory.proofs.Widths.{words-least}
-use Rattle.memory.specs.Words.{overwrite}
-use lib.ListN.{length, take, drop, length-take, length-drop}
-use Prim.Native.Nat.{_-_}
-use mathlib.Core.List.{List}
+-- `moves::saved::save` meets its contract. The part that is lent is the words of the page that there are. Assumes nothing.
 use mathlib.Core.Path.{_≡_, sym, ap, _∙_}
+use mathlib.Core.List.{List}
+use Prim.Native.Nat.{_-_}
 use native.Mathlib.Omega.{arith}
 use borrow.Author.Needs.{needs}
+use lib.ListN.{length, take, drop, length-take, length-drop}
+use Rattle.memory.proofs.Widths.{words-least}
+use Rattle.memory.specs.Words.{overwrite}
+use Rattle.moves.proofs.Parts.{part-of-page}
 use Rattle.moves.proofs.saved.save.Statement.{statement}
 use Rattle.moves.proofs.saved.save.Tie as tie
 

@@ -1,0 +1,4 @@
+pub mod Append
+pub mod Sizes
+pub mod Reading
+pub mod Writing

@@ -1,0 +1,27 @@
+-- `record::writer::end_of` meets its contract. A sound memory has so few pages that the address fits. Assumes nothing.
+use mathlib.Core.Path.{sym, ap, _∙_, subst}
+use Prim.Native.Nat.{ℕ, _+_, _<_}
+use borrow.Author.Needs.{needs}
+use Rattle.memory.specs.Geometry as Geometry
+use Rattle.record.proofs.Sizes.{end-fits}
+use Rattle.record.proofs.writer.end_of.Statement.{statement}
+use Rattle.record.proofs.writer.end_of.Tie as tie
+
+pages-requires : tie.Need-pages-requires
+pages-requires c κs = search needs
+
+flat-pages-requires : tie.Need-flat-pages-requires
+flat-pages-requires c κs = search needs
+
+add-t4 : tie.Need-add-t4
+add-t4 c = search needs
+
+address-requires : tie.Need-address-requires
+address-requires c κs = (c .before .before .before .pre .0, subst (λ (n : ℕ). Geometry.address (c .before .before .before .args .b) (n + 1) < 4294967296) (sym (c .flat-pages .ensures ∙ ap (Geometry.flatPages (c .before .before .before .args .b)) (c .before .pages .ensures))) (end-fits (c .before .before .before .args .b) (c .before .before .before .args .m .now) (c .before .before .before .pre .0 .1) (c .before .before .before .pre .1)))
+
+returns : tie.Need-returns
+returns c = c .address .ensures ∙ ap (λ (n : ℕ). Geometry.address (c .before .before .before .before .args .b) (n + 1)) (c .before .flat-pages .ensures ∙ ap (Geometry.flatPages (c .before .before .before .before .args .b)) (c .before .before .pages .ensures))
+
+pub end-of-spec : {M : Type 1} → statement M
+end-of-spec =
+    tie.close (tie.spec pages-requires flat-pages-requires add-t4 address-requires returns)

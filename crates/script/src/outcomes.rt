@@ -1,0 +1,44 @@
+// What a transcript's line says of an answer.
+use answers::Answer;
+ghost use mathlib.Core.Path.{_≡_};
+ghost use Rattle.answers.specs.Said.{said};
+ghost use Rattle.script.specs.Lines.{outcome, outcomeWord};
+
+// Ok with a word, or no with a refusal's number.
+pub struct Outcome(pub bool, pub u32);
+
+pub fn outcome_of(a: Answer) -> Outcome
+    ensures { λ r. ⌜ outcome (r .0) (r .1) ≡ said a ⌝ }
+{
+    match a {
+        Answer::Done(x) => Outcome(true, x),
+        Answer::Damaged => Outcome(false, 1),
+        Answer::Size => Outcome(false, 2),
+        Answer::Address => Outcome(false, 3),
+        Answer::Twice => Outcome(false, 4),
+        Answer::Child => Outcome(false, 5),
+        Answer::Rights => Outcome(false, 6),
+        Answer::Hand => Outcome(false, 7),
+        Answer::Table => Outcome(false, 8),
+        Answer::Taken => Outcome(false, 9),
+        Answer::List => Outcome(false, 10),
+        Answer::Chain => Outcome(false, 11),
+        Answer::FullTable => Outcome(false, 12),
+        Answer::Depth => Outcome(false, 13),
+        Answer::Root => Outcome(false, 14),
+        Answer::Unmapped => Outcome(false, 15),
+        Answer::Kernel => Outcome(false, 16),
+        Answer::Short => Outcome(false, 17),
+        Answer::Magic => Outcome(false, 18),
+    }
+}
+
+// " ok " or " no ".
+pub fn outcome_word(done: bool) -> [u8; 4]
+    ensures { λ r. ⌜ r ≡ outcomeWord done ⌝ }
+{
+    if done {
+        return [32, 111, 107, 32];
+    }
+    [32, 110, 111, 32]
+}
