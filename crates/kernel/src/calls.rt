@@ -20,7 +20,7 @@ pub fn create_partition(m: &mut [u32], five: [u32; 5]) -> Answer
     ensures { λ r. ⌜ (said r ≡ answer 6 (now (m .entry)) (creating five)) × (now (m .exit) ≡ after 6 (now (m .entry)) (creating five)) ⌝ }
 {
     let b = pages::width();
-    let good = stubs::is_sound(m);
+    let good = judge::is_sound(m);
     making::create_partition(b, m, good, five)
 }
 
@@ -29,7 +29,7 @@ pub fn delete_partition(m: &mut [u32], child: u32) -> Answer
     ensures { λ r. ⌜ (said r ≡ answer 6 (now (m .entry)) (Call.deletePartition child)) × (now (m .exit) ≡ after 6 (now (m .entry)) (Call.deletePartition child)) ⌝ }
 {
     let b = pages::width();
-    let good = stubs::is_sound(m);
+    let good = judge::is_sound(m);
     making::delete_partition(b, m, good, child)
 }
 
@@ -38,7 +38,7 @@ pub fn add_vaddr(m: &mut [u32], page: u32, child: u32, target: u32, rights: u32)
     ensures { λ r. ⌜ (said r ≡ answer 6 (now (m .entry)) (Call.addVAddr page child target rights)) × (now (m .exit) ≡ after 6 (now (m .entry)) (Call.addVAddr page child target rights)) ⌝ }
 {
     let b = pages::width();
-    let good = stubs::is_sound(m);
+    let good = judge::is_sound(m);
     lending::add_vaddr(b, m, good, page, child, target, rights)
 }
 
@@ -47,7 +47,7 @@ pub fn remove_vaddr(m: &mut [u32], child: u32, target: u32) -> Answer
     ensures { λ r. ⌜ (said r ≡ answer 6 (now (m .entry)) (Call.removeVAddr child target)) × (now (m .exit) ≡ after 6 (now (m .entry)) (Call.removeVAddr child target)) ⌝ }
 {
     let b = pages::width();
-    let good = stubs::is_sound(m);
+    let good = judge::is_sound(m);
     lending::remove_vaddr(b, m, good, child, target)
 }
 
@@ -56,7 +56,7 @@ pub fn page_count(m: &[u32], child: u32, target: u32) -> Answer
     ensures { λ r. ⌜ (said r ≡ answer 6 (now (m .entry)) (Call.pageCount child target)) × (now (m .entry) ≡ after 6 (now (m .entry)) (Call.pageCount child target)) ⌝ }
 {
     let b = pages::width();
-    let good = stubs::is_sound(m);
+    let good = judge::is_sound(m);
     stubs::page_count(b, m, good, child, target)
 }
 
@@ -65,7 +65,7 @@ pub fn prepare(m: &mut [u32], child: u32, target: u32, first: u32) -> Answer
     ensures { λ r. ⌜ (said r ≡ answer 6 (now (m .entry)) (Call.prepare child target first)) × (now (m .exit) ≡ after 6 (now (m .entry)) (Call.prepare child target first)) ⌝ }
 {
     let b = pages::width();
-    let good = stubs::is_sound(m);
+    let good = judge::is_sound(m);
     stubs::prepare(b, m, good, child, target, first)
 }
 
@@ -74,7 +74,7 @@ pub fn collect(m: &mut [u32], child: u32, target: u32) -> Answer
     ensures { λ r. ⌜ (said r ≡ answer 6 (now (m .entry)) (Call.collect child target)) × (now (m .exit) ≡ after 6 (now (m .entry)) (Call.collect child target)) ⌝ }
 {
     let b = pages::width();
-    let good = stubs::is_sound(m);
+    let good = judge::is_sound(m);
     stubs::collect(b, m, good, child, target)
 }
 
@@ -83,7 +83,7 @@ pub fn mapped_in_child(m: &[u32], page: u32) -> Answer
     ensures { λ r. ⌜ (said r ≡ answer 6 (now (m .entry)) (Call.mappedInChild page)) × (now (m .entry) ≡ after 6 (now (m .entry)) (Call.mappedInChild page)) ⌝ }
 {
     let b = pages::width();
-    let good = stubs::is_sound(m);
+    let good = judge::is_sound(m);
     lending::mapped_in_child(b, m, good, page)
 }
 
@@ -92,7 +92,7 @@ pub fn enter(m: &mut [u32], child: u32) -> Answer
     ensures { λ r. ⌜ (said r ≡ answer 6 (now (m .entry)) (Call.enter child)) × (now (m .exit) ≡ after 6 (now (m .entry)) (Call.enter child)) ⌝ }
 {
     let b = pages::width();
-    let good = stubs::is_sound(m);
+    let good = judge::is_sound(m);
     access::enter(b, m, good, child)
 }
 
@@ -101,7 +101,7 @@ pub fn leave(m: &mut [u32]) -> Answer
     ensures { λ r. ⌜ (said r ≡ answer 6 (now (m .entry)) Call.leave) × (now (m .exit) ≡ after 6 (now (m .entry)) Call.leave) ⌝ }
 {
     let b = pages::width();
-    let good = stubs::is_sound(m);
+    let good = judge::is_sound(m);
     access::leave(b, m, good)
 }
 
@@ -110,7 +110,7 @@ pub fn load(m: &[u32], address: u32) -> Answer
     ensures { λ r. ⌜ (said r ≡ answer 6 (now (m .entry)) (Call.load address)) × (now (m .entry) ≡ after 6 (now (m .entry)) (Call.load address)) ⌝ }
 {
     let b = pages::width();
-    let good = stubs::is_sound(m);
+    let good = judge::is_sound(m);
     access::load(b, m, good, address)
 }
 
@@ -119,6 +119,6 @@ pub fn store(m: &mut [u32], address: u32, word: u32) -> Answer
     ensures { λ r. ⌜ (said r ≡ answer 6 (now (m .entry)) (Call.store address word)) × (now (m .exit) ≡ after 6 (now (m .entry)) (Call.store address word)) ⌝ }
 {
     let b = pages::width();
-    let good = stubs::is_sound(m);
+    let good = judge::is_sound(m);
     access::store(b, m, good, address, word)
 }

@@ -7,12 +7,6 @@ ghost use Rattle.rules.specs.Calls.{answer, after};
 ghost use Rattle.pages.specs.Width.{Width};
 ghost use Rattle.answers.specs.Said.{said};
 
-pub fn is_sound(m: &[u32]) -> bool
-    ensures { λ r. ⌜ r ≡ soundTest 6 (now (m .entry)) ⌝ }
-{
-    true
-}
-
 pub fn page_count(b: u32, m: &[u32], good: bool, child: u32, target: u32) -> Answer
     requires { ⌜ Width b ⌝ }
     requires judged { ⌜ good ≡ soundTest b (now m) ⌝ }
