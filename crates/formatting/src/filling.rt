@@ -7,7 +7,7 @@ use answers::Answer;
 use pages::PhysicalPage;
 ghost use mathlib.Core.Path.{_≡_};
 ghost use mathlib.Core.Bool.{false};
-ghost use Prim.Native.Nat.{_+_, _*_, _<_, _≤_};
+ghost use Prim.Native.Nat.{_+_, _<_, _≤_};
 ghost use lib.ListN.{length};
 ghost use Rattle.memory.specs.Geometry.{threesFor, pageWords};
 ghost use Rattle.memory.specs.Words.{tabulate};

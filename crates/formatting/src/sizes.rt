@@ -1,6 +1,6 @@
 // The size of a memory, and what format counts from it.
 ghost use mathlib.Core.Path.{_≡_};
-ghost use Prim.Native.Nat.{_+_, _*_, _<_, _≤_, _^_};
+ghost use Prim.Native.Nat.{_+_, _*_, _<_, _≤_};
 ghost use Rattle.memory.specs.Geometry;
 ghost use Rattle.memory.specs.Geometry.{threesFor};
 ghost use Rattle.rules.specs.Conditions.{pagesIn, wrongSize};
