@@ -51,7 +51,7 @@ module _ (b : ℕ) (m : List ℕ) where
 
   module _ (d own a₀ a₁ a₂ a₃ a₄ : ℕ) where
     -- the descriptor's words, of which every second is a frame
-    frames : List ℕ → Type 0
+    abbrev pub frames : List ℕ → Type 0
     frames v =
         a₀ ≡ address b (pageOf b (mapping b m d (getD v 0 0))) → a₁ ≡ address b (pageOf b (mapping b m d (getD v 1 0)))
         → a₂ ≡ address b (pageOf b (mapping b m d (getD v 2 0))) → a₃ ≡ address b (pageOf b (mapping b m d (getD v 3 0)))
@@ -59,15 +59,10 @@ module _ (b : ℕ) (m : List ℕ) where
         → (getD v 0 0 ∷ a₀ ∷ getD v 1 0 ∷ a₁ ∷ getD v 2 0 ∷ a₂ ∷ getD v 3 0 ∷ a₃ ∷ getD v 4 0 ∷ a₄ ∷ 0 ∷ own ∷ []) ≡ descriptor b m d own v
 
     frames-five : (p q s t l : ℕ) → frames (p ∷ q ∷ s ∷ t ∷ l ∷ [])
-    unfolding frames descriptor
+    unfolding descriptor
     frames-five p q s t l h₀ h₁ h₂ h₃ h₄ = rw (h₀, h₁, h₂, h₃, h₄)
 
-    pub descriptor-is : (v : List ℕ) → length v ≡ 5
-        → a₀ ≡ address b (pageOf b (mapping b m d (getD v 0 0))) → a₁ ≡ address b (pageOf b (mapping b m d (getD v 1 0)))
-        → a₂ ≡ address b (pageOf b (mapping b m d (getD v 2 0))) → a₃ ≡ address b (pageOf b (mapping b m d (getD v 3 0)))
-        → a₄ ≡ address b (pageOf b (mapping b m d (getD v 4 0)))
-        → (getD v 0 0 ∷ a₀ ∷ getD v 1 0 ∷ a₁ ∷ getD v 2 0 ∷ a₂ ∷ getD v 3 0 ∷ a₃ ∷ getD v 4 0 ∷ a₄ ∷ 0 ∷ own ∷ []) ≡ descriptor b m d own v
-    unfolding frames
+    pub descriptor-is : (v : List ℕ) → length v ≡ 5 → frames v
     descriptor-is v e = five-elim frames frames-five v e
 
   -- the effect, with the five as one group
