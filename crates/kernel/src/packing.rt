@@ -26,5 +26,7 @@ pub fn pack(a: Answer) -> u64
         Answer::Root => 0xE_0000_0000,
         Answer::Unmapped => 0xF_0000_0000,
         Answer::Kernel => 0x10_0000_0000,
+        Answer::Short => 0x11_0000_0000,
+        Answer::Magic => 0x12_0000_0000,
     }
 }

@@ -57,6 +57,12 @@ enum-told-15 c = search needs
 enum-told-16 : tie.Need-enum-told-16
 enum-told-16 c = search needs
 
+enum-told-17 : tie.Need-enum-told-17
+enum-told-17 c = search needs
+
+enum-told-18 : tie.Need-enum-told-18
+enum-told-18 c = search needs
+
 returns : tie.Need-returns
 returns c = rw (c .before .a .given .1)
 
@@ -108,6 +114,12 @@ returns-16 c = rw (c .enum-told15 .given .1)
 returns-17 : tie.Need-returns-17
 returns-17 c = rw (c .enum-told16 .given .1)
 
+returns-18 : tie.Need-returns-18
+returns-18 c = rw (c .enum-told17 .given .1)
+
+returns-19 : tie.Need-returns-19
+returns-19 c = rw (c .enum-told18 .given .1)
+
 pub pack-spec : {M : Type 1} → statement M
 pack-spec =
     tie.close
@@ -130,6 +142,8 @@ pack-spec =
     enum-told-14
     enum-told-15
     enum-told-16
+    enum-told-17
+    enum-told-18
     returns
     returns-2
     returns-3
@@ -146,4 +160,6 @@ pack-spec =
     returns-14
     returns-15
     returns-16
-    returns-17)
+    returns-17
+    returns-18
+    returns-19)
