@@ -1,0 +1,35 @@
+-- `access::partitions::enter_effect` meets its contract. The word written is the address of the page that the mapping names. Assumes nothing.
+use borrow.Author.Needs.{needs}
+use Rattle.rules.specs.Effects.{effect}
+use Rattle.access.proofs.partitions.enter_effect.Statement.{statement}
+use Rattle.access.proofs.partitions.enter_effect.Tie as tie
+
+current-requires : tie.Need-current-requires
+current-requires c κs = search needs
+
+mapping-requires : tie.Need-mapping-requires
+mapping-requires c κs = search needs
+
+frame-requires : tie.Need-frame-requires
+frame-requires c κs = search needs
+
+write-word-requires : tie.Need-write-word-requires
+write-word-requires c κs = search needs
+
+same-length : tie.Need-same-length
+same-length c = search needs
+
+returns : tie.Need-returns
+unfolding effect
+returns c = cc
+
+pub enter-effect-spec : {M : Type 1} → statement M
+enter-effect-spec =
+    tie.close
+    (tie.spec
+    current-requires
+    mapping-requires
+    frame-requires
+    write-word-requires
+    same-length
+    returns)

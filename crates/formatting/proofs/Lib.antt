@@ -1,0 +1,3 @@
+pub mod SizeLaws
+pub mod WordLaws
+pub mod FillLaws

@@ -1,0 +1,41 @@
+-- `formatting::root::header_word` meets its contract. The word is read from the list that the definition reads. Assumes nothing.
+use mathlib.Core.Path.{_∙_}
+use borrow.Author.Needs.{needs}
+use Rattle.formatting.proofs.WordLaws.{header-is}
+use Rattle.formatting.proofs.root.header_word.Statement.{statement}
+use Rattle.formatting.proofs.root.header_word.Tie as tie
+
+page-address-requires : tie.Need-page-address-requires
+page-address-requires c κs = search needs
+
+mul-page-address : tie.Need-mul-page-address
+mul-page-address c = search needs
+
+add-page-address : tie.Need-add-page-address
+add-page-address c = search needs
+
+page-address-requires-2 : tie.Need-page-address-requires-2
+page-address-requires-2 c κs = search needs
+
+slice-aggregate-read : tie.Need-slice-aggregate-read
+slice-aggregate-read c = search needs
+
+read-requires : tie.Need-read-requires
+read-requires c κs = search needs
+
+returns : tie.Need-returns
+returns c =
+    let s = c .before .before .before .before .args in
+    c .read .ensures ∙ header-is (s .b) (s .n) (s .t) (c .before .before .before .before .pre .1 .0) (s .i) (c .before .before .before .page-address .result) (c .before .before .page-address2 .result) (c .before .before .before .page-address .ensures .0) (c .before .before .page-address2 .ensures .0)
+
+pub header-word-spec : {M : Type 1} → statement M
+header-word-spec =
+    tie.close
+    (tie.spec
+    page-address-requires
+    mul-page-address
+    add-page-address
+    page-address-requires-2
+    slice-aggregate-read
+    read-requires
+    returns)

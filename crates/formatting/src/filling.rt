@@ -1,0 +1,62 @@
+// Format: each page is lent as its own part of the memory and filled there.
+use crate::root::format_word;
+use crate::sizes::pages_in;
+use crate::sizes::threes_for;
+use crate::sizes::wrong_size;
+use answers::Answer;
+use pages::PhysicalPage;
+ghost use mathlib.Core.Path.{_≡_};
+ghost use mathlib.Core.Bool.{false};
+ghost use Prim.Native.Nat.{_+_, _*_, _<_, _≤_};
+ghost use lib.ListN.{length};
+ghost use Rattle.memory.specs.Geometry.{threesFor, pageWords};
+ghost use Rattle.memory.specs.Words.{tabulate};
+ghost use Rattle.memory.specs.Format.{formatWord};
+ghost use Rattle.rules.specs.Call.{formatAll};
+ghost use Rattle.rules.specs.Conditions.{wrongSize};
+ghost use Rattle.rules.specs.Effects.{effect};
+ghost use Rattle.rules.specs.Calls.{answer, after};
+ghost use Rattle.pages.specs.Width.{Width};
+ghost use Rattle.answers.specs.Said.{said};
+
+// Every word of the part s, which is page p.
+fn format_page(b: u32, s: &mut [u32], n: u32, t: u32, p: PhysicalPage)
+    requires { ⌜ Width b ⌝ }
+    requires threes { ⌜ (t ≡ threesFor b n) × (t ≤ 6144) ⌝ }
+    requires pages { ⌜ (n ≤ 4096) × (p .0 ≤ 4096) × (length (now s) ≤ pageWords b) ⌝ }
+    ensures { λ r. ⌜ now (s .exit) ≡ tabulate 0 (length (now (s .entry))) (formatWord b n (p .0)) ⌝ }
+{
+    let mut i = 0;
+    while i < s.len() {
+        s[i] = format_word(b, n, t, p, i as u32);
+        i += 1;
+    }
+}
+
+fn format_effect(b: u32, m: &mut [u32])
+    requires { ⌜ Width b ⌝ }
+    requires sized { ⌜ wrongSize b (now m) ≡ false ⌝ }
+    ensures { λ r. ⌜ now (m .exit) ≡ effect b (now (m .entry)) formatAll ⌝ }
+{
+    let n = pages_in(b, m) as u32;
+    let t = threes_for(b, n);
+    let mut p = 0;
+    while p < n {
+        let a = pages::index(b, PhysicalPage(p), 0);
+        let e = pages::index(b, PhysicalPage(p + 1), 0);
+        format_page(b, &mut m[a..e], n, t, PhysicalPage(p));
+        p += 1;
+    }
+}
+
+// The call has no number, and one refusal: 2.
+pub fn format(b: u32, m: &mut [u32]) -> Answer
+    requires { ⌜ Width b ⌝ }
+    ensures { λ r. ⌜ (said r ≡ answer b (now (m .entry)) formatAll) × (now (m .exit) ≡ after b (now (m .entry)) formatAll) ⌝ }
+{
+    if wrong_size(b, m) {
+        return Answer::Size;
+    }
+    format_effect(b, m);
+    Answer::Done(0)
+}

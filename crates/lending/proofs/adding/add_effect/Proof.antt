@@ -1,0 +1,50 @@
+-- `lending::adding::add_effect` meets its contract. The three stores are those of the definition, one after the other. Assumes nothing.
+use borrow.Author.Needs.{needs}
+use Rattle.lending.proofs.Laws.{add-is}
+use Rattle.lending.proofs.adding.add_effect.Statement.{statement}
+use Rattle.lending.proofs.adding.add_effect.Tie as tie
+
+current-requires : tie.Need-current-requires
+current-requires c κs = search needs
+
+child-of-requires : tie.Need-child-of-requires
+child-of-requires c κs = search needs
+
+mapping-requires : tie.Need-mapping-requires
+mapping-requires c κs = search needs
+
+entry-of-requires : tie.Need-entry-of-requires
+entry-of-requires c κs = search needs
+
+set-mapping-requires : tie.Need-set-mapping-requires
+set-mapping-requires c κs = search needs
+
+set-above-requires : tie.Need-set-above-requires
+set-above-requires c κs = search needs
+
+set-lent-requires : tie.Need-set-lent-requires
+set-lent-requires c κs = search needs
+
+same-length : tie.Need-same-length
+same-length c = search needs
+
+returns : tie.Need-returns
+returns c =
+    let s = c .before .before .before .before .before .before .before .before .before .before .before .before .before .before .before .before .before .before .before .before .args in
+    add-is (s .b) (s .m .now) (s .p) (s .c) (s .t) (s .r) (c .before .before .before .before .before .before .before .before .before .before .before .before .before .before .before .before .before .current .result .0) (c .before .before .before .before .before .before .before .before .before .before .before .before .before .before .before .child-of .result .0) (c .before .before .before .before .before .before .before .before .before .before .before .before .before .mapping .result) (c .before .before .before .before .before .before .before .before .before .before .before .before .entry-of .result)
+    (c .before .before .before .before .before .before .before .before .before .before .set-mapping .last .1 .0) (c .before .before .before .before .before .before .set-above .last .1 .0) (c .before .before .set-lent .last .1 .0)
+    (c .before .before .before .before .before .before .before .before .before .before .before .before .before .before .before .before .before .current .ensures) (c .before .before .before .before .before .before .before .before .before .before .before .before .before .before .before .child-of .ensures) (c .before .before .before .before .before .before .before .before .before .before .before .before .before .mapping .ensures) (c .before .before .before .before .before .before .before .before .before .before .before .before .entry-of .ensures) (c .before .before .before .before .before .before .before .before .before .before .set-mapping .ensures) (c .before .before .before .before .before .before .set-above .ensures) (c .before .before .set-lent .ensures)
+
+pub add-effect-spec : {M : Type 1} → statement M
+add-effect-spec =
+    tie.close
+    (tie.spec
+    current-requires
+    child-of-requires
+    mapping-requires
+    entry-of-requires
+    set-mapping-requires
+    set-above-requires
+    set-lent-requires
+    same-length
+    returns)

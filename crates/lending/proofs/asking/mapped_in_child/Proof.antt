@@ -1,0 +1,47 @@
+-- `lending::asking::mapped_in_child` meets its contract. The answer and the memory go by the number of the refusal. Assumes nothing.
+use mathlib.Core.Path.{_∙_}
+use borrow.Author.Needs.{needs}
+use Rattle.rules.specs.Call.{mappedInChild}
+use Rattle.rules.specs.Calls.{result}
+use Rattle.rules.specs.Effects.{effect}
+use Rattle.moves.proofs.Whole.{answer-refused, after-refused, answer-done, after-done}
+use Rattle.lending.proofs.asking.mapped_in_child.Statement.{statement}
+use Rattle.lending.proofs.asking.mapped_in_child.Tie as tie
+
+mapped-refusal-requires : tie.Need-mapped-refusal-requires
+mapped-refusal-requires c κs = search needs
+
+reply-requires : tie.Need-reply-requires
+reply-requires c κs = search needs
+
+returns : tie.Need-returns
+returns c =
+    let s = c .before .before .before .before .args in
+    let r = c .before .before .mapped-refusal in
+    let call = mappedInChild (s .p) in
+    (c .reply .ensures ∙ answer-refused (s .b) (s .m .now) call (r .result) (r .ensures .0) 0 (c .before .if1 .taken), after-refused (s .b) (s .m .now) call (r .result) (r .ensures .0) (c .before .if1 .taken))
+
+lent-to-requires : tie.Need-lent-to-requires
+lent-to-requires c κs = search needs
+
+reply-requires-2 : tie.Need-reply-requires-2
+reply-requires-2 c κs = search needs
+
+returns-2 : tie.Need-returns-2
+unfolding effect
+returns-2 c =
+    let s = c .before .before .before .before .before .args in
+    let r = c .before .before .before .mapped-refusal in
+    let call = mappedInChild (s .p) in
+    (c .reply2 .ensures ∙ answer-done (s .b) (s .m .now) call (r .result) (r .ensures .0) (c .before .lent-to .result) (c .before .lent-to .ensures) (c .before .before .if1 .left), after-done (s .b) (s .m .now) call (r .result) (r .ensures .0) (c .before .before .if1 .left))
+
+pub mapped-in-child-spec : {M : Type 1} → statement M
+mapped-in-child-spec =
+    tie.close
+    (tie.spec
+    mapped-refusal-requires
+    reply-requires
+    returns
+    lent-to-requires
+    reply-requires-2
+    returns-2)

@@ -1,0 +1,55 @@
+-- `lending::removing::remove_vaddr` meets its contract. The answer and the memory go by the number of the refusal. Assumes nothing.
+use mathlib.Core.Path.{_∙_}
+use borrow.Author.Needs.{needs}
+use Rattle.rules.specs.Call.{removeVAddr}
+use Rattle.rules.specs.Calls.{result}
+use Rattle.moves.proofs.Whole.{answer-refused, after-refused, answer-done, after-done}
+use Rattle.lending.proofs.removing.remove_vaddr.Statement.{statement}
+use Rattle.lending.proofs.removing.remove_vaddr.Tie as tie
+
+remove-refusal-requires : tie.Need-remove-refusal-requires
+remove-refusal-requires c κs = search needs
+
+reply-requires : tie.Need-reply-requires
+reply-requires c κs = search needs
+
+same-length : tie.Need-same-length
+same-length c = search needs
+
+returns : tie.Need-returns
+returns c =
+    let s = c .before .before .before .before .before .args in
+    let r = c .before .before .remove-refusal in
+    let call = removeVAddr (s .c) (s .t) in
+    (c .reply .ensures ∙ answer-refused (s .b) (s .m .now) call (r .result) (r .ensures .0) 0 (c .before .if1 .taken), after-refused (s .b) (s .m .now) call (r .result) (r .ensures .0) (c .before .if1 .taken))
+
+remove-effect-requires : tie.Need-remove-effect-requires
+remove-effect-requires c κs = search needs
+
+reply-requires-2 : tie.Need-reply-requires-2
+reply-requires-2 c κs = search needs
+
+same-length-2 : tie.Need-same-length-2
+same-length-2 c = search needs
+
+returns-2 : tie.Need-returns-2
+unfolding result
+returns-2 c =
+    let s = c .before .before .before .before .before .before .before .before .before .args in
+    let r = c .before .before .before .before .before .before .remove-refusal in
+    let x = c .before .before .before .remove-effect in
+    let call = removeVAddr (s .c) (s .t) in
+    (c .reply2 .ensures ∙ answer-done (s .b) (s .m .now) call (r .result) (r .ensures .0) (x .result) (x .ensures .0) (c .before .before .before .before .before .if1 .left), x .ensures .1 ∙ after-done (s .b) (s .m .now) call (r .result) (r .ensures .0) (c .before .before .before .before .before .if1 .left))
+
+pub remove-vaddr-spec : {M : Type 1} → statement M
+remove-vaddr-spec =
+    tie.close
+    (tie.spec
+    remove-refusal-requires
+    reply-requires
+    same-length
+    returns
+    remove-effect-requires
+    reply-requires-2
+    same-length-2
+    returns-2)

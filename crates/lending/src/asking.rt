@@ -1,0 +1,53 @@
+// mappedInChild: "the child's descriptor address, or 0 if not lent".
+use answers::Answer;
+ghost use mathlib.Core.Path.{_≡_};
+ghost use Prim.Native.Nat.{_≤_};
+ghost use Rattle.soundness.specs.Test.{soundTest};
+ghost use Rattle.rules.specs.Call.{mappedInChild};
+ghost use Rattle.rules.specs.Refusals.{refusal};
+ghost use Rattle.rules.specs.Calls.{result, answer, after};
+ghost use Rattle.pages.specs.Width.{Width};
+ghost use Rattle.answers.specs.Said.{said};
+
+// 1 3 15
+fn mapped_refusal(b: u32, m: &[u32], good: bool, p: u32) -> u32
+    requires { ⌜ Width b ⌝ }
+    requires judged { ⌜ good ≡ soundTest b (now m) ⌝ }
+    ensures { λ r. ⌜ (r ≡ refusal b (now (m .entry)) (mappedInChild p)) × (r ≤ 16) ⌝ }
+{
+    if !good {
+        return 1;
+    }
+    if pages::bad_page(b, p) {
+        return 3;
+    }
+    if moves::unmapped(b, m, pages::current(b, m), p) {
+        return 15;
+    }
+    0
+}
+
+// The child that the page at p is lent to, or 0. Shadow 1 word 1 is a child's descriptor and not a lent page.
+fn lent_to(b: u32, m: &[u32], p: u32) -> u32
+    requires { ⌜ Width b ⌝ }
+    ensures { λ r. ⌜ r ≡ result b (now (m .entry)) (mappedInChild p) ⌝ }
+{
+    let x = pages::lent(b, m, pages::current(b, m), p);
+    if x == 1 {
+        return 0;
+    }
+    x
+}
+
+// 8. The page at p of the caller.
+pub fn mapped_in_child(b: u32, m: &[u32], good: bool, p: u32) -> Answer
+    requires { ⌜ Width b ⌝ }
+    requires judged { ⌜ good ≡ soundTest b (now m) ⌝ }
+    ensures { λ r. ⌜ (said r ≡ answer b (now (m .entry)) (mappedInChild p)) × (now (m .entry) ≡ after b (now (m .entry)) (mappedInChild p)) ⌝ }
+{
+    let n = mapped_refusal(b, m, good, p);
+    if n != 0 {
+        return answers::reply(n, 0);
+    }
+    answers::reply(0, lent_to(b, m, p))
+}
