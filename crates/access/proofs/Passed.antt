@@ -1,14 +1,13 @@
 -- Where no refusal is given, every test of the row is false. Assumes nothing.
 use mathlib.Core.Path.{_≡_, refl}
 use mathlib.Core.Logic.{_≢_}
-use mathlib.Core.Bool.{Bool, true, false}
+use mathlib.Core.Bool.{true, false}
 use mathlib.Core.List.{List, [], _∷_}
-use Prim.Native.Nat.{ℕ}
 use native.Mathlib.Nat.{suc-ne-zero}
 use Rattle.rules.specs.Refusal.{Refusal, number, DAMAGED, SIZE, ADDRESS, TWICE, CHILD, RIGHTS, HAND, TABLE, TAKEN, LIST, CHAIN, FULL-TABLE, DEPTH, ROOT, UNMAPPED, KERNEL, SHORT, MAGIC}
 use Rattle.rules.specs.Row.{Check, _when_, first}
 
-number-some : (n : Refusal) → number n ≢ 0
+pub number-some : (n : Refusal) → number n ≢ 0
 number-some DAMAGED = suc-ne-zero 0
 number-some SIZE = suc-ne-zero 1
 number-some ADDRESS = suc-ne-zero 2

@@ -1,0 +1,5 @@
+pub mod ChainLaws
+pub mod ListLaws
+pub mod DropLaws
+pub mod EffectLaws
+pub mod StandLaws

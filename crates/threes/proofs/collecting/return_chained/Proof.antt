@@ -1,0 +1,33 @@
+-- `threes::collecting::return_chained` meets its contract. The pages are returned and linked one after the other. Assumes nothing.
+use borrow.Author.Needs.{needs}
+use Rattle.threes.proofs.collecting.return_chained.Statement.{statement}
+use Rattle.threes.proofs.collecting.return_chained.Tie as tie
+
+slice-aggregate-return-all : tie.Need-slice-aggregate-return-all
+slice-aggregate-return-all c = search needs
+
+return-all-requires : tie.Need-return-all-requires
+return-all-requires c κs = search needs
+
+write-word-requires : tie.Need-write-word-requires
+write-word-requires c κs = search needs
+
+write-word-requires-2 : tie.Need-write-word-requires-2
+write-word-requires-2 c κs = search needs
+
+same-length : tie.Need-same-length
+same-length c = search needs
+
+returns : tie.Need-returns
+returns c = cc
+
+pub return-chained-spec : {M : Type 1} → statement M
+return-chained-spec =
+    tie.close
+    (tie.spec
+    slice-aggregate-return-all
+    return-all-requires
+    write-word-requires
+    write-word-requires-2
+    same-length
+    returns)
