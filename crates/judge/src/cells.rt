@@ -51,14 +51,12 @@ pub fn from_parent(b: u32, m: &[u32], d: PhysicalPage, v: u32, c: PhysicalPage, 
 // A mapping of the root comes from no other partition.
 pub fn origin(b: u32, m: &[u32], d: PhysicalPage, v: u32) -> bool
     requires { ⌜ Width b ⌝ }
-    ensures {
-        λ r.
+    ensures { λ r.
         ⌜
         r
         ≡ (eqb (d .0) 1
         || fromParent b (now (m .entry)) (Partition.parent b (now (m .entry)) (d .0)) (word b (now (m .entry)) (d .0) 0) (d .0) v)
-        ⌝
-    }
+        ⌝ }
 {
     if d.0 == 1 {
         return true;

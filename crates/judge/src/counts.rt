@@ -71,14 +71,12 @@ pub fn shut_test(b: u32, m: &[u32], d: PhysicalPage) -> bool
 // "conversely each lent page is mapped in that child once": the parent of d lends it as many pages as d maps.
 pub fn lent_test(b: u32, m: &[u32], d: PhysicalPage) -> bool
     requires { ⌜ Width b ⌝ }
-    ensures {
-        λ r.
+    ensures { λ r.
         ⌜
         r
         ≡ (eqb (d .0) 1
         || eqb (lentCount b (now (m .entry)) (Partition.parent b (now (m .entry)) (d .0)) (word b (now (m .entry)) (d .0) 0)) (mappedCount b (now (m .entry)) (d .0)))
-        ⌝
-    }
+        ⌝ }
 {
     if d.0 == 1 {
         return true;

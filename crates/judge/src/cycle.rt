@@ -19,13 +19,11 @@ ghost use Rattle.pages.specs.Width.{Width};
 // A partition with left levels below it.
 pub fn judge_partition(b: u32, m: &[u32], seen: &mut [u8], d: PhysicalPage, left: u32) -> bool
     requires { ⌜ Width b ⌝ }
-    ensures {
-        λ r.
+    ensures { λ r.
         ⌜
         W.judge (children b (now (m .entry))) (own b (now (m .entry))) (partitionTest b (now (m .entry))) left (now (seen .entry)) (d .0)
         ≡ answer r (now (seen .exit))
-        ⌝
-    }
+        ⌝ }
 {
     if !partition_test(b, m, d) {
         return false;
@@ -39,13 +37,11 @@ pub fn judge_partition(b: u32, m: &[u32], seen: &mut [u8], d: PhysicalPage, left
 // The children of d, where left levels may follow.
 pub fn judge_children(b: u32, m: &[u32], seen: &mut [u8], d: PhysicalPage, left: u32) -> bool
     requires { ⌜ Width b ⌝ }
-    ensures {
-        λ r.
+    ensures { λ r.
         ⌜
         W.judges (children b (now (m .entry))) (own b (now (m .entry))) (partitionTest b (now (m .entry))) left (now (seen .entry)) (children b (now (m .entry)) (d .0))
         ≡ answer r (now (seen .exit))
-        ⌝
-    }
+        ⌝ }
 {
     let end = virtual_pages(b);
     let mut n = next(b, m, d, Ask::Child, VirtualPage(0)).0;

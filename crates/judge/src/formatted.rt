@@ -87,15 +87,13 @@ pub fn root_list_word(b: u32, n: u32, i: u32) -> u32
 // "it maps exactly the flat pages, with all rights": w is the page table word of virtual page v.
 pub fn root_mapping(b: u32, n: u32, v: VirtualPage, w: u32) -> bool
     requires { ⌜ Width b ⌝ }
-    ensures {
-        λ r.
+    ensures { λ r.
         ⌜
         r
         ≡ cond (leb 1 (v .0) && leb (v .0) (flatPages b n))
         (eqb (pageOf b w) (5 + 3 * threesFor b n + v .0) && eqb (Entry.rights w) allRights)
         (eqb w 0)
-        ⌝
-    }
+        ⌝ }
 {
     if v.0 == 0 {
         return w == 0;

@@ -23,15 +23,13 @@ ghost use Rattle.pages.specs.Width.{Width};
 // "N pages, 16 to 256", and the length is theirs. The most is as many as a page has bytes.
 pub fn size_test(b: u32, m: &[u32]) -> bool
     requires { ⌜ Width b ⌝ }
-    ensures {
-        λ r.
+    ensures { λ r.
         ⌜
         r
         ≡ (eqb (length (now (m .entry))) (Partition.pages b (now (m .entry)) * pageWords b)
         && leb leastPages (Partition.pages b (now (m .entry)))
         && leb (Partition.pages b (now (m .entry))) (mostPages b))
-        ⌝
-    }
+        ⌝ }
 {
     let n = pages(b, m);
     if m.len() != index(b, PhysicalPage(n), 0) {
@@ -46,16 +44,14 @@ pub fn size_test(b: u32, m: &[u32]) -> bool
 // "1 T; 2 byte offset of the root descriptor; 3 byte offset of the first root page; 4 physical address of the current partition's descriptor"
 pub fn offsets_test(b: u32, m: &[u32]) -> bool
     requires { ⌜ Width b ⌝ }
-    ensures {
-        λ r.
+    ensures { λ r.
         ⌜
         r
         ≡ (eqb (word b (now (m .entry)) 0 1) (threesFor b (Partition.pages b (now (m .entry))))
         && eqb (word b (now (m .entry)) 0 2) (address b 1)
         && eqb (word b (now (m .entry)) 0 3) (address b (6 + 3 * threesFor b (Partition.pages b (now (m .entry)))))
         && physical b (now (m .entry)) (word b (now (m .entry)) 0 4))
-        ⌝
-    }
+        ⌝ }
 {
     let t = threes_for(b, pages(b, m));
     if read_word(b, m, PhysicalPage(0), 1) != t {
@@ -64,7 +60,11 @@ pub fn offsets_test(b: u32, m: &[u32]) -> bool
     if !is_address(b, read_word(b, m, PhysicalPage(0), 2), PhysicalPage(1)) {
         return false;
     }
-    if !is_address(b, read_word(b, m, PhysicalPage(0), 3), PhysicalPage(6 + 3 * t)) {
+    if !is_address(
+        b,
+        read_word(b, m, PhysicalPage(0), 3),
+        PhysicalPage(6 + 3 * t),
+    ) {
         return false;
     }
     physical_address(b, m, read_word(b, m, PhysicalPage(0), 4))

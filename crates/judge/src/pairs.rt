@@ -32,13 +32,11 @@ pub fn descriptor_pair(b: u32, m: &[u32], d: PhysicalPage, j: u32) -> Pair
 // Pair j of d's list.
 pub fn list_pair(b: u32, m: &[u32], d: PhysicalPage, j: u32) -> Pair
     requires { ⌜ Width b ⌝ }
-    ensures {
-        λ r.
+    ensures { λ r.
         ⌜
         (r .0 ≡ word b (now (m .entry)) (Partition.list b (now (m .entry)) (d .0)) (1 + 2 * j))
         × (r .1 ≡ word b (now (m .entry)) (Partition.list b (now (m .entry)) (d .0)) (2 + 2 * j))
-        ⌝
-    }
+        ⌝ }
 {
     let i = 2 * (j as usize);
     Pair(list_word(b, m, d, 1 + i), list_word(b, m, d, 2 + i))

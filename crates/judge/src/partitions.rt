@@ -79,15 +79,13 @@ pub fn threes_test(b: u32, m: &[u32], d: PhysicalPage) -> bool
 // The descriptor, the directory and its shadows, the list.
 pub fn forms_test(b: u32, m: &[u32], d: PhysicalPage) -> bool
     requires { ⌜ Width b ⌝ }
-    ensures {
-        λ r.
+    ensures { λ r.
         ⌜
         r
         ≡ (descriptorTest b (now (m .entry)) (d .0)
         && all (directoryTest b (now (m .entry)) (d .0)) (from (pageWords b) 0)
         && listTest b (now (m .entry)) (d .0))
-        ⌝
-    }
+        ⌝ }
 {
     if !descriptor_test(b, m, d) {
         return false;

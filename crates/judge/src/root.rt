@@ -25,13 +25,11 @@ ghost use Rattle.pages.specs.Width.{Width};
 // The five pages of the root.
 pub fn root_pages(b: u32, m: &[u32]) -> bool
     requires { ⌜ Width b ⌝ }
-    ensures {
-        λ r.
+    ensures { λ r.
         ⌜
         r
         ≡ all (λ p. all (λ i. eqb (word b (now (m .entry)) (1 + p) i) (formatWord b (Partition.pages b (now (m .entry))) (1 + p) i)) (from (pageWords b) 0)) (from 5 0)
-        ⌝
-    }
+        ⌝ }
 {
     if !each_word(b, m, Question::RootDescriptor) {
         return false;

@@ -89,14 +89,12 @@ pub fn three_once(b: u32, m: &[u32], d: PhysicalPage, j: u32) -> bool
 // Index i of d has no tables, or is listed once.
 pub fn index_once(b: u32, m: &[u32], d: PhysicalPage, i: u32) -> bool
     requires { ⌜ Width b ⌝ }
-    ensures {
-        λ r.
+    ensures { λ r.
         ⌜
         r
         ≡ (eqb (word b (now (m .entry)) (directory b (now (m .entry)) (d .0)) i) 0
         || once (λ j. Test.stands b (now (m .entry)) (d .0) j i) (from (Partition.threes b (now (m .entry)) (d .0)) 0))
-        ⌝
-    }
+        ⌝ }
 {
     if directory_word(b, m, d, i) == 0 {
         return true;

@@ -39,13 +39,11 @@ pub fn all_marked(seen: &[u8]) -> bool
 pub fn tree_test(b: u32, m: &[u32], seen: &mut [u8]) -> bool
     requires { ⌜ Width b ⌝ }
     requires size { ⌜ length (now seen) ≡ pages b (now m) ⌝ }
-    ensures {
-        λ r.
+    ensures { λ r.
         ⌜
         r
         ≡ judged b (now (m .entry)) (W.judge (children b (now (m .entry))) (own b (now (m .entry))) (partitionTest b (now (m .entry))) mostDepth (now (seen .entry)) 1)
-        ⌝
-    }
+        ⌝ }
 {
     if !judge_partition(b, m, seen, PhysicalPage(1), 8) {
         return false;

@@ -52,10 +52,13 @@ part-seen-end c = omega (arith, (c .pages .ensures ∙ ap (λ (b : ℕ). pages b
 
 -- src/sound.rt:43:5
 judged-with-requires : tie.Need-judged-with-requires
-judged-with-requires c κs =
-    (omega (arith, c .before .before .before .before .width .ensures),
-    (yes (c .before .before .before .header-test .ensures) (c .before .before .if1 .left),
-    clear-part (c .before .pages .result) (pages (c .before .before .before .before .width .result) (c .before .before .before .before .before .before .args .m .now)) (c .before .pages .ensures) (omega (arith, (c .before .pages .ensures ∙ ap (λ (b : ℕ). pages b (c .before .before .before .before .before .before .args .m .now)) (c .before .before .before .before .width .ensures)), header-most 6 (c .before .before .before .before .before .before .args .m .now) (yes (c .before .before .before .header-test .ensures ∙ ap (λ (b : ℕ). headerTest b (c .before .before .before .before .before .before .args .m .now)) (c .before .before .before .before .width .ensures)) (c .before .before .if1 .left))))))
+judged-with-requires c κs = (
+  omega (arith, c .before .before .before .before .width .ensures),
+  (
+    yes (c .before .before .before .header-test .ensures) (c .before .before .if1 .left),
+    clear-part (c .before .pages .result) (pages (c .before .before .before .before .width .result) (c .before .before .before .before .before .before .args .m .now)) (c .before .pages .ensures) (omega (arith, (c .before .pages .ensures ∙ ap (λ (b : ℕ). pages b (c .before .before .before .before .before .before .args .m .now)) (c .before .before .before .before .width .ensures)), header-most 6 (c .before .before .before .before .before .before .args .m .now) (yes (c .before .before .before .header-test .ensures ∙ ap (λ (b : ℕ). headerTest b (c .before .before .before .before .before .before .args .m .now)) (c .before .before .before .before .width .ensures)) (c .before .before .if1 .left)))),
+  ),
+)
 
 -- src/sound.rt:34:1
 returns-2 : tie.Need-returns-2

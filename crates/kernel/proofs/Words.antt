@@ -1,0 +1,64 @@
+-- The words of a sequence: where a call stands and where its words end. Assumes nothing.
+use mathlib.Core.Path.{_≡_, refl, sym, ap, _∙_}
+use mathlib.Core.Logic.{_≢_}
+use mathlib.Core.Bool.{Bool, true, false, cond, _&&_, and-false}
+use mathlib.Core.List.{List, [], _∷_}
+use Prim.Native.Nat.{ℕ, zero, suc, _+_, _-_, _≤_, _<_}
+use native.Mathlib.Omega.{arith}
+use borrow.Author.Tests.{le-leb, lt-leb, leb-true}
+use lib.Dec.{leb}
+use lib.ListN.{length, getD}
+use Rattle.rules.specs.Call.{Call}
+use Rattle.rules.specs.Replay.{callOf}
+use Rattle.kernel.specs.Sequence.{numbered, five, callAt, endAt, whole, callsFrom}
+
+module _ (ws : List ℕ) (i : ℕ) where
+  -- the number and the five words behind it are the call
+  pub call-of : {n : ℕ} {a : List ℕ} → n ≡ getD ws i 0 → a ≡ five ws i → numbered n (λ j. getD a j 0) ≡ callAt ws i
+  unfolding numbered callOf
+  call-of e f = rw (e, f)
+
+  -- ---- whether a whole call stands at word i
+
+  pub not-whole : length ws < endAt ws i → whole ws i ≡ false
+  not-whole h = ap (λ t. leb (getD ws i 0) 12 && t) (lt-leb (endAt ws i) (length ws) h) ∙ and-false (leb (getD ws i 0) 12)
+
+  pub unknown : 12 < getD ws i 0 → whole ws i ≡ false
+  unknown h = rw (lt-leb (getD ws i 0) 12 h)
+
+  pub is-whole : getD ws i 0 ≤ 12 → endAt ws i ≤ length ws → whole ws i ≡ true
+  is-whole h k = rw (le-leb (getD ws i 0) 12 h, le-leb (endAt ws i) (length ws) k)
+
+  -- ---- from the end that was found
+
+  ended : (t : Bool) {e : ℕ} → e ≡ cond t (endAt ws i) 0 → e ≡ 0 → t ≡ false
+  ended true p q = absurd (omega arith)
+  ended false p q = refl
+
+  pub no-end : {e : ℕ} → e ≡ cond (whole ws i) (endAt ws i) 0 → e ≡ 0 → (k : ℕ) → callsFrom k ws i ≡ []
+  unfolding callsFrom
+  no-end p q zero = refl
+  no-end p q (suc k) = rw (ended (whole ws i) p q)
+
+  found : (t : Bool) {e : ℕ} → e ≡ cond t (endAt ws i) 0 → e ≢ 0 → (t ≡ true) × (e ≡ endAt ws i)
+  found true p q = (refl, p)
+  found false p q = absurd (q p)
+
+  within : (s t : Bool) → (s && t) ≡ true → t ≡ true
+  within true t p = p
+  within false t p = let z : _≡_ {A = ℕ} 0 1 = cc in absurd (omega arith)
+
+  module _ {e : ℕ} (p : e ≡ cond (whole ws i) (endAt ws i) 0) (q : e ≢ 0) where
+    pub end-within : e ≤ length ws
+    end-within =
+        let f = found (whole ws i) p q in
+        omega (arith, leb-true (endAt ws i) (length ws) (within (leb (getD ws i 0) 12) (leb (endAt ws i) (length ws)) (f .0)))
+
+    pub start-within : i < length ws
+    start-within = omega (arith, end-within, found (whole ws i) p q .1)
+
+    pub end-next : (k : ℕ) → callsFrom (suc k) ws i ≡ callAt ws i ∷ callsFrom k ws e
+    unfolding callsFrom
+    end-next k =
+        let f = found (whole ws i) p q in
+        rw (f .0, ← f .1)

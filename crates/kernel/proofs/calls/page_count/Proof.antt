@@ -1,0 +1,20 @@
+-- `kernel::calls::page_count` meets its contract. The width is 6, and the verdict that of the judge. Assumes nothing.
+use native.Mathlib.Omega.{arith}
+use borrow.Author.Needs.{needs}
+use Rattle.kernel.proofs.calls.page_count.Statement.{statement}
+use Rattle.kernel.proofs.calls.page_count.Tie as tie
+
+width-requires : tie.Need-width-requires
+width-requires c κs = search needs
+
+is-sound-requires : tie.Need-is-sound-requires
+is-sound-requires c κs = search needs
+
+page-count-requires : tie.Need-page-count-requires
+page-count-requires c κs = (omega arith, rw (c .before .width .ensures) (c .is-sound .ensures))
+
+returns : tie.Need-returns
+returns c = rw (c .before .before .width .ensures) at (c .page-count .ensures)
+
+pub page-count-spec : {M : Type 1} → statement M
+page-count-spec = tie.close (tie.spec width-requires is-sound-requires page-count-requires returns)

@@ -1,0 +1,41 @@
+-- `kernel::dispatch::call` meets its contract. The number and the words behind it are the call. Assumes nothing.
+use mathlib.Core.Path.{ap, _∙_}
+use borrow.Author.Needs.{needs}
+use Rattle.rules.specs.Calls.{answer, after}
+use Rattle.kernel.specs.Sequence.{packed}
+use Rattle.kernel.proofs.Words.{call-of}
+use Rattle.kernel.proofs.dispatch.call.Statement.{statement}
+use Rattle.kernel.proofs.dispatch.call.Tie as tie
+
+read-requires : tie.Need-read-requires
+read-requires c κs = search needs
+
+arguments-requires : tie.Need-arguments-requires
+arguments-requires c κs = search needs
+
+by-number-requires : tie.Need-by-number-requires
+by-number-requires c κs = search needs
+
+pack-requires : tie.Need-pack-requires
+pack-requires c κs = search needs
+
+same-length : tie.Need-same-length
+same-length c = search needs
+
+returns : tie.Need-returns
+returns c =
+    let s = c .before .before .before .before .before .before .before .before .before .args in
+    let r = c .before .before .before .by-number .ensures in
+    let e = call-of (s .ws .now) (s .i) (c .before .before .before .before .before .before .read .ensures) (c .before .before .before .before .before .arguments .ensures) in
+    (c .pack .ensures ∙ ap packed (r .0 ∙ ap (λ x. answer 6 (s .m .now) x) e), r .1 ∙ ap (λ x. after 6 (s .m .now) x) e)
+
+pub call-spec : {M : Type 1} → statement M
+call-spec =
+    tie.close
+    (tie.spec
+    read-requires
+    arguments-requires
+    by-number-requires
+    pack-requires
+    same-length
+    returns)

@@ -1,0 +1,59 @@
+-- `kernel::sequences::end` meets its contract. Assumes nothing.
+use native.Mathlib.Omega.{arith}
+use borrow.Author.Needs.{needs}
+use Rattle.kernel.proofs.Words.{not-whole, unknown, is-whole}
+use Rattle.kernel.proofs.sequences.end.Statement.{statement}
+use Rattle.kernel.proofs.sequences.end.Tie as tie
+
+returns : tie.Need-returns
+returns c = rw (not-whole (c .before .args .ws .now) (c .before .args .i) (omega arith))
+
+mul-n : tie.Need-mul-n
+mul-n c = search needs
+
+shared-slice-read-n : tie.Need-shared-slice-read-n
+shared-slice-read-n c = search needs
+
+cast-n : tie.Need-cast-n
+cast-n c = omega (arith, c .shared-slice-known .given (c .before .before .args .i))
+
+returns-2 : tie.Need-returns-2
+returns-2 c = rw (unknown (c .before .before .before .args .ws .now) (c .before .before .before .args .i) (omega arith))
+
+mul-k : tie.Need-mul-k
+mul-k c = search needs
+
+array-read-k : tie.Need-array-read-k
+array-read-k c = search needs
+
+sub-if3 : tie.Need-sub-if3
+sub-if3 c = search needs
+
+returns-3 : tie.Need-returns-3
+returns-3 c = rw (not-whole (c .before .before .before .before .args .ws .now) (c .before .before .before .before .args .i) (omega arith))
+
+add-result : tie.Need-add-result
+add-result c = search needs
+
+add-result-2 : tie.Need-add-result-2
+add-result-2 c = search needs
+
+returns-4 : tie.Need-returns-4
+returns-4 c = rw (is-whole (c .before .before .before .before .args .ws .now) (c .before .before .before .before .args .i) (omega arith) (omega arith))
+
+pub end-spec : {M : Type 1} → statement M
+end-spec =
+    tie.close
+    (tie.spec
+    returns
+    mul-n
+    shared-slice-read-n
+    cast-n
+    returns-2
+    mul-k
+    array-read-k
+    sub-if3
+    returns-3
+    add-result
+    add-result-2
+    returns-4)

@@ -1,0 +1,29 @@
+-- What a run of a sequence owes: demands 1 to 3 of the code that runs. Assumes nothing.
+use mathlib.Core.Path.{_≡_}
+use mathlib.Core.List.{List, _∷_, _++_, map}
+use Prim.Native.Nat.{ℕ}
+use lib.ListN.{length}
+use Rattle.memory.specs.Words.{overwrite}
+use Rattle.rules.specs.Call.{Call, formatAll}
+use Rattle.rules.specs.Calls.{run, answers}
+use Rattle.claim.specs.Claim.{Permitted, Claim, Barred}
+use Rattle.kernel.specs.Sequence.{callsFrom, packed}
+
+-- the calls that words ws stand for, as many as out has room for answers
+abbrev pub executed : List ℕ → List ℕ → List Call
+executed ws out = callsFrom (length out) ws 0
+
+-- the packed answers of calls cs on memory m
+abbrev pub packedAnswers : List ℕ → List Call → List ℕ
+packedAnswers m cs = map packed (answers 6 m cs)
+
+-- memory m and answers out become m′ and out′, and the run says n
+pub record Ran (ws m m′ out out′ : List ℕ) (n : ℕ) : Type 0 where
+  pub count : n ≡ length (executed ws out)
+  pub memory : m′ ≡ run 6 m (executed ws out)
+  -- the rest of the answers stays
+  pub answered : out′ ≡ overwrite out 0 (packedAnswers m (executed ws out))
+  -- format and then any number of the calls behind it: demand 3 holds after format and after each of them
+  pub claim : (cs ds : List Call) → executed ws out ≡ formatAll ∷ (cs ++ ds) → Permitted 6 m → Claim 6 m cs
+  -- on memory of another length every call is refused and no word changes
+  pub barred : ¬ Permitted 6 m → Barred 6 m (executed ws out)

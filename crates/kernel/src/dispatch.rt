@@ -1,0 +1,55 @@
+// A call by its number, with its arguments as words.
+use crate::calls;
+use crate::packing::pack;
+use answers::Answer;
+ghost use mathlib.Core.Path.{_≡_};
+ghost use Prim.Native.Nat.{_<_};
+ghost use lib.ListN.{length, getD};
+ghost use Rattle.rules.specs.Calls.{answer, after};
+ghost use Rattle.answers.specs.Said.{said};
+ghost use Rattle.kernel.specs.Sequence.{numbered, five, callAt, packed};
+
+// The call of number n: 0 is format, 1 to 12 are document 01's. a holds its arguments.
+pub fn by_number(m: &mut [u32], n: u32, a: [u32; 5]) -> Answer
+    ensures { λ r. ⌜ (said r ≡ answer 6 (now (m .entry)) (numbered n (λ j. getD a j 0))) × (now (m .exit) ≡ after 6 (now (m .entry)) (numbered n (λ j. getD a j 0))) ⌝ }
+{
+    match n {
+        0 => calls::format(m),
+        1 => calls::create_partition(m, a),
+        2 => calls::delete_partition(m, a[0]),
+        3 => calls::add_vaddr(m, a[0], a[1], a[2], a[3]),
+        4 => calls::remove_vaddr(m, a[0], a[1]),
+        5 => calls::page_count(m, a[0], a[1]),
+        6 => calls::prepare(m, a[0], a[1], a[2]),
+        7 => calls::collect(m, a[0], a[1]),
+        8 => calls::mapped_in_child(m, a[0]),
+        9 => calls::enter(m, a[0]),
+        10 => calls::leave(m),
+        11 => calls::load(m, a[0]),
+        _ => calls::store(m, a[0], a[1]),
+    }
+}
+
+// The five words behind word i: no call has more arguments.
+fn arguments(ws: &[u32], i: usize) -> [u32; 5]
+    requires { ⌜ i < length (now ws) ⌝ }
+    ensures { λ r. ⌜ r ≡ five (now (ws .entry)) i ⌝ }
+{
+    [
+        pages::read(ws, i + 1),
+        pages::read(ws, i + 2),
+        pages::read(ws, i + 3),
+        pages::read(ws, i + 4),
+        pages::read(ws, i + 5),
+    ]
+}
+
+// The call whose number is word i.
+pub fn call(m: &mut [u32], ws: &[u32], i: usize) -> u64
+    requires { ⌜ i < length (now ws) ⌝ }
+    ensures { λ r. ⌜ (r ≡ packed (answer 6 (now (m .entry)) (callAt (now (ws .entry)) i))) × (now (m .exit) ≡ after 6 (now (m .entry)) (callAt (now (ws .entry)) i)) ⌝ }
+{
+    let n = pages::read(ws, i);
+    let a = arguments(ws, i);
+    pack(by_number(m, n, a))
+}

@@ -1,0 +1,23 @@
+// The kernel: the open calls, a call by its number, and the run of a sequence.
+pub mod calls;
+pub mod dispatch;
+pub mod packing;
+pub mod sequences;
+
+pub use calls::add_vaddr;
+pub use calls::collect;
+pub use calls::create_partition;
+pub use calls::delete_partition;
+pub use calls::enter;
+pub use calls::format;
+pub use calls::leave;
+pub use calls::load;
+pub use calls::mapped_in_child;
+pub use calls::page_count;
+pub use calls::prepare;
+pub use calls::remove_vaddr;
+pub use calls::store;
+pub use dispatch::by_number;
+pub use dispatch::call;
+pub use packing::pack;
+pub use sequences::run;
