@@ -2,7 +2,7 @@
 
   python3 tests/verdicts/make.py [--check]     # --check: compare with the stored files instead of writing them
 
-The input is little-endian words, for each case: N, the number of words of calls, the calls, the number of changes, and index and value of each."""
+The input is little-endian words, for each case: N, how many words of the memory are not 0, and index and value of each."""
 import os, subprocess, sys
 
 from cases import CASES
@@ -31,10 +31,11 @@ def main():
     subprocess.run(['cargo', 'build', '--release', '--quiet', '--offline'], cwd=SECOND, check=True)
     stdin, stdout = b'', ''
     for name, n, calls, changes, broken in CASES:
-        flat = [w for c in calls for w in c]
-        stdin += little([n, len(flat)] + flat + [len(changes)] + [w for c in changes for w in c])
+        words = memory(n, calls, changes)
+        used = [(i, w) for i, w in enumerate(words) if w]
+        stdin += little([n, len(used)] + [w for pair in used for w in pair])
         stdout += 'damaged\n' if broken else 'sound\n'
-        said = subprocess.run([os.path.join(TARGET, 'release', 'trace'), 'judge'], input=little(memory(n, calls, changes)), stdout=subprocess.PIPE, check=True)
+        said = subprocess.run([os.path.join(TARGET, 'release', 'trace'), 'judge'], input=little(words), stdout=subprocess.PIPE, check=True)
         told = said.stdout.decode().strip()
         if told != str(broken):
             sys.exit('%s: the second program says %s, wanted %s' % (name, told, broken))
