@@ -1,0 +1,8 @@
+// Replay: from the bytes of a script to the bytes of its transcript.
+pub mod replays;
+pub mod steps;
+pub mod turns;
+
+pub use replays::replay;
+pub use steps::step;
+pub use turns::transcribe;
