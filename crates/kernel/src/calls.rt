@@ -1,5 +1,4 @@
 // The open calls, by document 01's numbers. Each but format judges the memory first, and is then the call of that name at document 01's index width.
-use crate::stubs;
 use answers::Answer;
 ghost use mathlib.Core.Path.{_≡_};
 ghost use Rattle.rules.specs.Call;
@@ -57,7 +56,7 @@ pub fn page_count(m: &[u32], child: u32, target: u32) -> Answer
 {
     let b = pages::width();
     let good = judge::is_sound(m);
-    stubs::page_count(b, m, good, child, target)
+    threes::page_count(b, m, good, child, target)
 }
 
 // 6.
@@ -66,7 +65,7 @@ pub fn prepare(m: &mut [u32], child: u32, target: u32, first: u32) -> Answer
 {
     let b = pages::width();
     let good = judge::is_sound(m);
-    stubs::prepare(b, m, good, child, target, first)
+    threes::prepare(b, m, good, child, target, first)
 }
 
 // 7.
@@ -75,7 +74,7 @@ pub fn collect(m: &mut [u32], child: u32, target: u32) -> Answer
 {
     let b = pages::width();
     let good = judge::is_sound(m);
-    stubs::collect(b, m, good, child, target)
+    threes::collect(b, m, good, child, target)
 }
 
 // 8.

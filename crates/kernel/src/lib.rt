@@ -3,7 +3,6 @@ pub mod calls;
 pub mod dispatch;
 pub mod packing;
 pub mod sequences;
-mod stubs;
 
 pub use calls::add_vaddr;
 pub use calls::collect;
