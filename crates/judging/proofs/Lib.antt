@@ -8,3 +8,4 @@ pub mod LentOnce
 pub mod FromCells
 pub mod ToCells
 pub mod Exact
+pub mod Bound
