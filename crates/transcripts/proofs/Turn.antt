@@ -7,12 +7,14 @@ use native.Mathlib.Omega.{arith}
 use lib.ListN.{length}
 use Rattle.memory.specs.Words.{overwrite}
 use Rattle.memory.specs.Format.{format}
+use Rattle.memory.proofs.Overwrite.{length-overwrite}
 use Rattle.rules.specs.Row.{Answer}
 use Rattle.rules.specs.Bytes.{wordIn}
 use Rattle.rules.specs.Calls.{answer, after}
-use Rattle.rules.specs.Replay.{line, script}
+use Rattle.rules.specs.Replay.{line, script, replay}
 use Rattle.script.specs.Walk.{isScript, nextRecord, callAt}
 use Rattle.script.specs.Lines.{Put, firstLine}
+use Rattle.script.proofs.Lengths.{replay-most}
 use Rattle.script.proofs.Puts.{put-same}
 use Rattle.script.proofs.Replays.{Walking, begun, goes-on}
 
@@ -52,3 +54,7 @@ module _ (bs : List ℕ) where
       → a ≡ answer 6 m (callAt bs i) → m′ ≡ after 6 m (callAt bs i) → Put out wider at next (line (k + 1) a) → i′ ≡ nextRecord bs i
       → Walking 6 bs before (n - 1) i′ (k + 1) next m′ wider
   turn {before} {k = k} w h a s p e = rw (s, e) (goes-on 6 bs before w h (put-same (ap (line (k + 1)) a) p))
+
+  -- the transcript is within the buffer
+  pub fits : {before out : List ℕ} {at : ℕ} → Put before out 0 at (replay 6 bs) → 32768 ≤ length before → at ≤ length out
+  fits {before} p h = omega (arith, p .next, replay-most 6 bs, ap length (p .bytes) ∙ length-overwrite before 0 (replay 6 bs))

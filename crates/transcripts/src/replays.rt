@@ -41,7 +41,7 @@ fn run(bytes: &[u8], m: &mut [u32], out: &mut [u8]) -> usize
 
 // The first r bytes of out are the transcript of the script; what is none "prints only `bad script`".
 pub fn replay(bytes: &[u8], out: &mut [u8; 32768]) -> usize
-    ensures { λ r. ⌜ Put (now (out .entry)) (now (out .exit)) 0 r (Replay.replay 6 (now (bytes .entry))) × (r ≤ 32768) ⌝ }
+    ensures { λ r. ⌜ Put (now (out .entry)) (now (out .exit)) 0 r (Replay.replay 6 (now (bytes .entry))) × (r ≤ length (now (out .exit))) ⌝ }
 {
     if !well_formed(6, bytes) {
         return put_bad_script(out);

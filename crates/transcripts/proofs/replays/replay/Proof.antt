@@ -4,8 +4,8 @@ use native.Mathlib.Omega.{arith}
 use lib.ListN.{length-take}
 use borrow.Author.Tests.{not-true, not-false}
 use borrow.Author.Needs.{needs}
-use Rattle.script.proofs.Lengths.{replay-most}
 use Rattle.script.proofs.Replays.{bad}
+use Rattle.transcripts.proofs.Turn.{fits}
 use Rattle.transcripts.proofs.replays.replay.Statement.{statement}
 use Rattle.transcripts.proofs.replays.replay.Tie as tie
 
@@ -19,7 +19,7 @@ returns : tie.Need-returns
 returns c =
     let s = c .before .before .before .before .before .args in
     let p = bad 6 (s .bytes .now) (s .out .now) (sym (c .before .before .before .well-formed .ensures) ∙ not-true _ (c .before .before .if1 .taken)) (c .put-bad-script .ensures) in
-    (p, omega (arith, p .next, replay-most 6 (s .bytes .now)))
+    (p, fits (s .bytes .now) p (search needs))
 
 most-words-requires : tie.Need-most-words-requires
 most-words-requires c κs = search needs
@@ -40,7 +40,7 @@ returns-2 : tie.Need-returns-2
 returns-2 c =
     let s = c .before .before .before .before .before .before .before .before .before .args in
     let p = c .before .run .ensures in
-    (p, omega (arith, p .next, replay-most 6 (s .bytes .now)))
+    (p, fits (s .bytes .now) p (search needs))
 
 pub replay-spec : {M : Type 1} → statement M
 replay-spec =
