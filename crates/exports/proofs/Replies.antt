@@ -4,7 +4,7 @@ use Prim.Native.Nat.{ℕ, zero, suc, _/_, _^_, _<_}
 use native.Mathlib.Nat.{mul-div-left, div-eq-of-lt}
 use native.Mathlib.Omega.{arith}
 use Rattle.rules.specs.Row.{Answer, reply}
-use Rattle.kernel.specs.Sequence.{packed}
+use Rattle.answers.specs.Packed.{packed}
 
 -- the upper half is the refusal's number, or 0
 pub upper-reply : (n x : ℕ) → x < 2 ^ 32 → packed (reply n x) / 2 ^ 32 ≡ n

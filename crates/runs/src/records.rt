@@ -9,7 +9,7 @@ fn print_number(x: u32) {
 // What the writer refused, what the reader refuses, begin and end.
 fn print_record(m: &[u32], out: &mut [u8]) {
     let revision = [1u8; 64];
-    let written = kernel::pack(startup::write_record(m, &revision, out));
+    let written = answers::pack(startup::write_record(m, &revision, out));
     io::write_all(STDOUT_FILENO, b"record");
     io::write_all(STDOUT_FILENO, b" ");
     io::print_decimal(STDOUT_FILENO, written / 4294967296);
