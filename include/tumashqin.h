@@ -26,25 +26,25 @@ extern "C" {
 
 /* Why a call was refused. A call gives the first that applies, in the order that its comment below names. */
 enum tumashqin_refusal {
-    TUMASHQIN_DONE = 0,       /* no refusal */
-    TUMASHQIN_DAMAGED = 1,    /* memory not sound */
-    TUMASHQIN_SIZE = 2,       /* format: the length is not 64 N with N 16 to 256 */
-    TUMASHQIN_ADDRESS = 3,    /* an address of 2^20 or more, on page 0, or not a multiple of 256 (load, store: of 4) */
-    TUMASHQIN_TWICE = 4,      /* two of the five equal */
-    TUMASHQIN_CHILD = 5,      /* no child of the caller has its descriptor there */
-    TUMASHQIN_RIGHTS = 6,     /* rights above 7, or a right that is not held */
-    TUMASHQIN_HAND = 7,       /* page not in the caller's hand (remove_vaddr: not in the child's) */
-    TUMASHQIN_TABLE = 8,      /* the child has no three of tables for the target */
-    TUMASHQIN_TAKEN = 9,      /* target mapped, or its three exists (prepare) */
-    TUMASHQIN_LIST = 10,      /* three absent, and ten threes exist */
-    TUMASHQIN_CHAIN = 11,     /* a link is no page address or repeats a page, or the chain is too long */
-    TUMASHQIN_FULL_TABLE = 12,/* the page table has a mapping */
-    TUMASHQIN_DEPTH = 13,     /* the caller is 8 below the root */
-    TUMASHQIN_ROOT = 14,      /* the root leaves */
-    TUMASHQIN_UNMAPPED = 15,  /* no mapping there */
-    TUMASHQIN_KERNEL = 16,    /* mapped, not accessible */
-    TUMASHQIN_SHORT = 17,     /* record or revision buffer too short */
-    TUMASHQIN_MAGIC = 18      /* the record's magic is wrong, or its begin is above its end */
+    TUMASHQIN_DONE = 0,        /* no refusal */
+    TUMASHQIN_DAMAGED = 1,     /* memory not sound */
+    TUMASHQIN_SIZE = 2,        /* format: the length is not 64 N with N 16 to 256 */
+    TUMASHQIN_ADDRESS = 3,     /* an address of 2^20 or more, on page 0, or not a multiple of 256 (load, store: of 4) */
+    TUMASHQIN_TWICE = 4,       /* two of the five equal */
+    TUMASHQIN_CHILD = 5,       /* no child of the caller has its descriptor there */
+    TUMASHQIN_RIGHTS = 6,      /* rights above 7, or a right that is not held */
+    TUMASHQIN_HAND = 7,        /* page not in the caller's hand (remove_vaddr: not in the child's) */
+    TUMASHQIN_TABLE = 8,       /* the child has no three of tables for the target */
+    TUMASHQIN_TAKEN = 9,       /* target mapped, or its three exists (prepare) */
+    TUMASHQIN_LIST = 10,       /* three absent, and ten threes exist */
+    TUMASHQIN_CHAIN = 11,      /* a link is no page address or repeats a page, or the chain is too long */
+    TUMASHQIN_FULL_TABLE = 12, /* the page table has a mapping */
+    TUMASHQIN_DEPTH = 13,      /* the caller is 8 below the root */
+    TUMASHQIN_ROOT = 14,       /* the root leaves */
+    TUMASHQIN_UNMAPPED = 15,   /* no mapping there */
+    TUMASHQIN_KERNEL = 16,     /* mapped, not accessible */
+    TUMASHQIN_SHORT = 17,      /* record or revision buffer too short */
+    TUMASHQIN_MAGIC = 18       /* the record's magic is wrong, or its begin is above its end */
 };
 
 /* Rights of a page, to be added. */
