@@ -14,7 +14,7 @@ use Rattle.rules.specs.Call.{prepare, collect, mappedInChild, enter, leave, loa
 use Rattle.rules.specs.Conditions.{child, noThree}
 use Rattle.rules.specs.Calls.{result, answer}
 use Rattle.rules.specs.Refusals.{refusal}
-use Rattle.kernel.specs.Sequence.{packed}
+use Rattle.answers.specs.Packed.{packed}
 use Rattle.exports.proofs.Replies.{upper-reply, lower-reply}
 
 cond-below : (t : Bool) {x y k : ℕ} → x < k → y < k → cond t x y < k
