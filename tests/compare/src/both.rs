@@ -6,7 +6,8 @@ use second::calls::{call, Answer};
 use second::cover::ROWS;
 use second::geometry::PAGE_WORDS;
 
-/// Performs a call on the proved kernel's memory and holds it to the second program's answer and words.
+/// Performs a call on the proved kernel's memory and holds it to the second program's answer and words. A flip is a word and a bit
+/// of it that is changed there after the call.
 pub fn follow(
     proved: &mut [u32],
     line: &[u32],
@@ -43,4 +44,17 @@ fn same(proved: &[u32], second: &[u32], said: Answer, answer: Answer) -> Result<
 
 fn shown(answer: Answer) -> String {
     answer.map_or_else(|refusal| format!("no {refusal}"), |word| format!("ok {word}"))
+}
+
+#[cfg(test)]
+mod tests {
+    use super::same;
+
+    #[test]
+    fn answers_and_words_are_compared() {
+        assert_eq!(same(&[1, 2], &[1, 2], Ok(3), Ok(3)), Ok(()));
+        assert_eq!(same(&[1, 2], &[1, 2], Err(1), Err(1)), Ok(()));
+        assert!(same(&[1, 2], &[1, 2], Ok(3), Err(3)).is_err_and(|text| text.contains("proved ok 3, second no 3")));
+        assert!(same(&[1, 2], &[1, 3], Ok(0), Ok(0)).is_err_and(|text| text.contains("word 1 (page 0, word 1)")));
+    }
 }

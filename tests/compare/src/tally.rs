@@ -52,7 +52,7 @@ impl Tally {
 impl fmt::Display for Tally {
     fn fmt(&self, f: &mut fmt::Formatter) -> fmt::Result {
         let (calls, passed) = (self.cover.calls(), self.cover.passed());
-        writeln!(f, "{calls} calls, {passed} of them passed; every answer and every word after each agrees")?;
+        writeln!(f, "{calls} calls, {passed} of them passed: every answer and every word after each agrees")?;
         writeln!(f, "{}\n", self.cover)?;
         for (name, count) in self.ways.each() {
             writeln!(f, "{count:9}  {name}")?;

@@ -32,16 +32,16 @@ const WAYS: [Way; 23] = [
     ("prepare ok: room and chain of the collect just before", |l| {
         l.ok(6) && l.collected == Some([l.line[1], l.line[3]])
     }),
-    ("prepare no 7: first page", |l| l.no(6, HAND) && l.chain().len() == 0),
-    ("prepare no 7: second page", |l| l.no(6, HAND) && l.chain().len() == 1),
-    ("prepare no 7: third page", |l| l.no(6, HAND) && l.chain().len() == 2),
-    ("prepare no 6: first page", |l| l.no(6, RIGHTS) && l.chain().len() == 0),
-    ("prepare no 6: second page", |l| l.no(6, RIGHTS) && l.chain().len() == 1),
-    ("prepare no 6: third page", |l| l.no(6, RIGHTS) && l.chain().len() == 2),
-    ("prepare no 11: no address for the second page", |l| l.no(6, CHAIN) && l.chain().len() == 1 && !l.again()),
-    ("prepare no 11: no address for the third page", |l| l.no(6, CHAIN) && l.chain().len() == 2 && !l.again()),
-    ("prepare no 11: a page again", |l| l.no(6, CHAIN) && l.chain().len() < 3 && l.again()),
-    ("prepare no 11: chain too long", |l| l.no(6, CHAIN) && l.chain().len() == 3),
+    ("prepare no 7: first page", |l| l.stops(HAND, 0)),
+    ("prepare no 7: second page", |l| l.stops(HAND, 1)),
+    ("prepare no 7: third page", |l| l.stops(HAND, 2)),
+    ("prepare no 6: first page", |l| l.stops(RIGHTS, 0)),
+    ("prepare no 6: second page", |l| l.stops(RIGHTS, 1)),
+    ("prepare no 6: third page", |l| l.stops(RIGHTS, 2)),
+    ("prepare no 11: no address for the second page", |l| l.stops(CHAIN, 1) && !l.again()),
+    ("prepare no 11: no address for the third page", |l| l.stops(CHAIN, 2) && !l.again()),
+    ("prepare no 11: a page again", |l| l.no(6, CHAIN) && !l.stops(CHAIN, 3) && l.again()),
+    ("prepare no 11: chain too long", |l| l.stops(CHAIN, 3)),
     ("mappedInChild ok: 0 for a child's kernel page", |l| l.answer == Ok(0) && l.closed()),
     ("mappedInChild ok: a lent page that is inaccessible", |l| l.answer != Ok(0) && l.closed()),
 ];
@@ -89,6 +89,11 @@ impl Look<'_> {
     /// What the child has at the second argument.
     fn target(&self) -> Option<Mapping> {
         self.child()?.mapping(self.mem, VPage::of(self.line[2]))
+    }
+
+    /// Prepare is refused so after so many pages of its chain have passed.
+    fn stops(&self, refusal: u32, pages: usize) -> bool {
+        self.no(6, refusal) && self.chain().len() == pages
     }
 
     /// The pages of prepare's chain that pass.
