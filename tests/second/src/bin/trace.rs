@@ -6,6 +6,7 @@ use second::damage::{damage, wide_damage};
 use second::geometry::PAGE_WORDS;
 use second::make::make;
 use second::random::Random;
+use second::record;
 use second::replay::replay;
 use second::sound::{broken, sound};
 use std::io::{self, BufWriter, Read, Write};
@@ -78,6 +79,7 @@ fn print_runs(only_cover: bool, out: &mut impl Write) -> io::Result<()> {
             }
             lines += &format!("{}\n", hash32(&mem));
         }
+        lines += &record_lines(&mem);
     }
     if !only_cover {
         return write!(out, "{lines}");
@@ -85,6 +87,17 @@ fn print_runs(only_cover: bool, out: &mut impl Write) -> io::Result<()> {
     writeln!(out, "{cover}")?;
     let missing: Vec<_> = cover.missing().into_iter().filter(|pair| !pair.starts_with("record")).collect();
     missing.is_empty().then_some(()).ok_or(io::Error::other(format!("not covered: {missing:?}")))
+}
+
+/// What the record's writer refuses, what the reader then refuses, begin and end: with 76 bytes, and with a byte too few.
+fn record_lines(mem: &[u32]) -> String {
+    let line = |length: usize| {
+        let mut bytes = vec![0; length];
+        let written = record::write(mem, &[1; record::REVISION], &mut bytes).err().unwrap_or(0);
+        let record::Extent { answer, begin, end } = record::read(&bytes);
+        format!("record {written} {} {begin} {end}\n", answer.err().unwrap_or(0))
+    };
+    line(record::LENGTH) + &line(record::LENGTH - 1)
 }
 
 /// The first call of a sequence of words and the words behind it; none where its number is unknown or it is cut.
