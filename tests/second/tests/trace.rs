@@ -38,3 +38,16 @@ fn make_cover_and_damage() {
     assert_eq!(damaged.lines().count(), 200);
     assert!(damaged.contains(" sound\n") && damaged.contains(" broken 1\n"));
 }
+
+#[test]
+fn runs() {
+    // One word: format is refused, a number that no call has is not run; then a cut call in 16 pages, and format there.
+    let input: [u32; 16] = [1, 1, 0, 1, 13, 0, 1024, 2, 10, 8, 2, 0, 10, 0, 0, 0];
+    let input: Vec<u8> = input.iter().flat_map(|word| word.to_le_bytes()).collect();
+    let output = trace(&["runs"], std::str::from_utf8(&input).unwrap());
+    let lines: Vec<_> = output.lines().collect();
+    let seven = (2_166_136_261u32 ^ 7).wrapping_mul(16_777_619).to_string();
+    assert_eq!(lines[..4], ["no 2", &seven, &seven, "no 1"]);
+    assert_eq!(lines[5..7], ["ok 0", "no 14"]);
+    assert_eq!(lines.len(), 8);
+}
