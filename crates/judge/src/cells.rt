@@ -1,8 +1,8 @@
 // The three table words of a partition at one address.
-use crate::addresses::virtual_address;
 use crate::children::child_at;
 use crate::children::child_cell;
-use crate::forms::entry_test;
+use forms::entry_test;
+use forms::virtual_address;
 use pages::PhysicalPage;
 use pages::above;
 use pages::accessible;

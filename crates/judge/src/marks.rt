@@ -1,9 +1,9 @@
 // "Pages 1 to N−1 are each in exactly one hand or one kernel use": one mark a page, set at each use.
-use crate::pairs::list_pair;
 use crate::search::Ask;
 use crate::search::address_of;
 use crate::search::next;
 use crate::search::virtual_pages;
+use forms::list_pair;
 use pages::PhysicalPage;
 use pages::VirtualPage;
 use pages::mapping;

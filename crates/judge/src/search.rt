@@ -3,7 +3,7 @@ use crate::cells::cell;
 use crate::cells::shut_cell;
 use crate::children::child_at;
 use crate::root::root_map;
-use crate::roots::directory_word;
+use forms::directory_word;
 use pages::PhysicalPage;
 use pages::VirtualPage;
 use pages::directory_index;

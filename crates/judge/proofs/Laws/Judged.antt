@@ -15,7 +15,7 @@ use Rattle.walk.specs.Walk.{clear}
 use Rattle.memory.specs.Geometry.{pageWords, leastPages, mostPages}
 use Rattle.memory.specs.Partition.{pages}
 use Rattle.soundness.specs.Test.{headerTest, judged, soundTest}
-use Rattle.judge.proofs.Laws.Tests.{and-false}
+use Rattle.forms.proofs.Laws.Tests.{and-false}
 
 take-zeros : (n k : ℕ) → n ≤ k → take n (replicate {A = ℕ} k 0) ≡ replicate n 0
 take-zeros zero k h = refl

@@ -1,15 +1,13 @@
 use mathlib.Core.Path.{refl}
 use Rattle.judge.proofs.Laws.Cells.{cell-as}
-use Rattle.judge.proofs.Laws.Tests.{yes, no, unequal, equal, same-eqb}
+use Rattle.forms.proofs.Laws.Tests.{yes, no, unequal, equal, same-eqb}
 use borrow.Author.Needs.{needs}
 use Rattle.judge.proofs.cells.cell.Statement.{statement}
 use Rattle.judge.proofs.cells.cell.Tie as tie
 use Rattle.judge.proofs.cells.cell.Reads as reads
 use Rattle.judge.proofs.cells.cell.Lts as lts
-use Rattle.judge.proofs.addresses.virtual_address.Reads as virtual-address-reads
 use Rattle.judge.proofs.cells.origin.Reads as origin-reads
 use Rattle.judge.proofs.cells.shadow1_cell.Reads as shadow1-cell-reads
-use Rattle.judge.proofs.forms.entry_test.Reads as entry-test-reads
 use Rattle.pages.proofs.above.Reads as above-reads
 use Rattle.pages.proofs.lent.Reads as lent-reads
 use Rattle.pages.proofs.mapping.Reads as mapping-reads

@@ -2,7 +2,7 @@ use Prim.Native.Nat.{ℕ}
 use mathlib.Core.Path.{refl, ap, _∙_}
 use Rattle.memory.specs.Entry.{holds}
 use Rattle.judge.proofs.Laws.Cells.{from-parent-as}
-use Rattle.judge.proofs.Laws.Tests.{yes, no, unequal, equal, same-eqb}
+use Rattle.forms.proofs.Laws.Tests.{yes, no, unequal, equal, same-eqb}
 use borrow.Author.Needs.{needs}
 use Rattle.judge.proofs.cells.from_parent.Statement.{statement}
 use Rattle.judge.proofs.cells.from_parent.Tie as tie

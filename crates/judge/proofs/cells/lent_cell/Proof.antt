@@ -1,12 +1,11 @@
 use mathlib.Core.Path.{refl}
 use Rattle.judge.proofs.Laws.Cells.{lent-cell-as}
-use Rattle.judge.proofs.Laws.Tests.{yes, no, unequal, equal}
+use Rattle.forms.proofs.Laws.Tests.{yes, no, unequal, equal}
 use borrow.Author.Needs.{needs}
 use Rattle.judge.proofs.cells.lent_cell.Statement.{statement}
 use Rattle.judge.proofs.cells.lent_cell.Tie as tie
 use Rattle.judge.proofs.cells.lent_cell.Reads as reads
 use Rattle.judge.proofs.cells.lent_cell.Lts as lts
-use Rattle.judge.proofs.addresses.virtual_address.Reads as virtual-address-reads
 use Rattle.judge.proofs.children.child_at.Reads as child-at-reads
 use Rattle.pages.proofs.lent.Reads as lent-reads
 use Rattle.pages.proofs.table_for.Reads as table-for-reads

@@ -1,5 +1,5 @@
 use mathlib.Core.Path.{refl}
-use Rattle.judge.proofs.Laws.Tests.{unequal, equal}
+use Rattle.forms.proofs.Laws.Tests.{unequal, equal}
 use borrow.Author.Needs.{needs}
 use Rattle.judge.proofs.cells.origin.Statement.{statement}
 use Rattle.judge.proofs.cells.origin.Tie as tie

@@ -1,6 +1,6 @@
 use mathlib.Core.Path.{refl}
 use Rattle.judge.proofs.Laws.Cells.{shadow1-cell-as}
-use Rattle.judge.proofs.Laws.Tests.{unequal, equal}
+use Rattle.forms.proofs.Laws.Tests.{unequal, equal}
 use borrow.Author.Needs.{needs}
 use Rattle.judge.proofs.cells.shadow1_cell.Statement.{statement}
 use Rattle.judge.proofs.cells.shadow1_cell.Tie as tie

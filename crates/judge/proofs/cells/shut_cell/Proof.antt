@@ -4,7 +4,7 @@ use Rattle.memory.specs.Entry.{accessible}
 use Rattle.judging.specs.Quick.{shutCell}
 use Rattle.soundness.specs.Test.{shutAt}
 use Rattle.judge.proofs.Laws.Cells.{shut-cell-as}
-use Rattle.judge.proofs.Laws.Tests.{unequal, equal, same-eqb}
+use Rattle.forms.proofs.Laws.Tests.{unequal, equal, same-eqb}
 use borrow.Author.Needs.{needs}
 use Rattle.judge.proofs.cells.shut_cell.Statement.{statement}
 use Rattle.judge.proofs.cells.shut_cell.Tie as tie

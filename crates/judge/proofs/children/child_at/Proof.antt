@@ -1,6 +1,6 @@
 use mathlib.Core.Path.{refl}
 use Rattle.memory.specs.Counts.{childAt}
-use Rattle.judge.proofs.Laws.Tests.{unequal, equal, same-eqb}
+use Rattle.forms.proofs.Laws.Tests.{unequal, equal, same-eqb}
 use borrow.Author.Needs.{needs}
 use Rattle.judge.proofs.children.child_at.Statement.{statement}
 use Rattle.judge.proofs.children.child_at.Tie as tie

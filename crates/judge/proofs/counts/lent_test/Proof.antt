@@ -1,6 +1,6 @@
 use mathlib.Core.Path.{refl, ap, _∙_}
 use Rattle.judging.specs.Quick.{lentCount, mappedCount}
-use Rattle.judge.proofs.Laws.Tests.{equal, unequal, same-eqb}
+use Rattle.forms.proofs.Laws.Tests.{equal, unequal, same-eqb}
 use borrow.Author.Needs.{needs}
 use Rattle.judge.proofs.counts.lent_test.Statement.{statement}
 use Rattle.judge.proofs.counts.lent_test.Tie as tie

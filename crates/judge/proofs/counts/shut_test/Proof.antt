@@ -1,5 +1,5 @@
 use Rattle.judging.specs.Quick.{shutCount}
-use Rattle.judge.proofs.Laws.Tests.{same-eqb}
+use Rattle.forms.proofs.Laws.Tests.{same-eqb}
 use borrow.Author.Needs.{needs}
 use Rattle.judge.proofs.counts.shut_test.Statement.{statement}
 use Rattle.judge.proofs.counts.shut_test.Tie as tie

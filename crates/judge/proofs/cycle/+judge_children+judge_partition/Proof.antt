@@ -13,7 +13,7 @@ use Rattle.walk.specs.Walk as W
 use Rattle.walk.specs.Walk.{judge-bad, judge-stop, judge-go, child-none, child-next}
 use Rattle.judge.specs.Search.{virtualPages, at}
 use Rattle.judge.proofs.Laws.Tree.{partition-few}
-use Rattle.judge.proofs.Laws.Tests.{yes, no}
+use Rattle.forms.proofs.Laws.Tests.{yes, no}
 use Rattle.judge.proofs.Laws.Search.{found, seek-ge}
 use Rattle.judge.proofs.Laws.Counts.{childOn, children-start}
 use Rattle.judge.proofs.Laws.Marks.{walk-went, walk-failed, walk-barred, walk-end}

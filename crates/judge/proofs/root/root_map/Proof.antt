@@ -1,12 +1,11 @@
 use mathlib.Core.Path.{refl}
 use Rattle.soundness.specs.Test.{rootMapTest}
-use Rattle.judge.proofs.Laws.Tests.{yes, no, same-eqb}
+use Rattle.forms.proofs.Laws.Tests.{yes, no, same-eqb}
 use borrow.Author.Needs.{needs}
 use Rattle.judge.proofs.root.root_map.Statement.{statement}
 use Rattle.judge.proofs.root.root_map.Tie as tie
 use Rattle.judge.proofs.root.root_map.Reads as reads
 use Rattle.judge.proofs.root.root_map.Lts as lts
-use Rattle.judge.proofs.formatted.root_mapping.Reads as root-mapping-reads
 use Rattle.pages.proofs.virtual_page.Reads as virtual-page-reads
 use Rattle.pages.proofs.above.Reads as above-reads
 use Rattle.pages.proofs.mapping.Reads as mapping-reads

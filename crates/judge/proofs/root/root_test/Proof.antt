@@ -3,13 +3,12 @@ use mathlib.Core.Path.{sym, ap, _∙_}
 use lib.Dec.{leb}
 use Rattle.soundness.specs.Test.{rootMapTest, rootTest}
 use Rattle.judge.proofs.Laws.Search.{all-by-number}
-use Rattle.judge.proofs.Laws.Tests.{yes, no}
+use Rattle.forms.proofs.Laws.Tests.{yes, no}
 use borrow.Author.Needs.{needs}
 use Rattle.judge.proofs.root.root_test.Statement.{statement}
 use Rattle.judge.proofs.root.root_test.Tie as tie
 use Rattle.judge.proofs.root.root_test.Reads as reads
 use Rattle.judge.proofs.root.root_test.Lts as lts
-use Rattle.judge.proofs.root.root_pages.Reads as root-pages-reads
 use Rattle.judge.proofs.search.next.Reads as next-reads
 use Rattle.judge.proofs.search.virtual_pages.Reads as virtual-pages-reads
 

@@ -5,13 +5,12 @@ use Rattle.memory.specs.Partition.{directory}
 use Rattle.memory.specs.Words.{word}
 use Rattle.judge.proofs.Laws.Search.{step-row, step-one}
 use Rattle.judge.proofs.Laws.Numbers.{most-pages, row-small, next-row-is, next-row-small}
-use Rattle.judge.proofs.Laws.Tests.{unequal, equal}
+use Rattle.forms.proofs.Laws.Tests.{unequal, equal}
 use borrow.Author.Needs.{needs}
 use Rattle.judge.proofs.search.after.Statement.{statement}
 use Rattle.judge.proofs.search.after.Tie as tie
 use Rattle.judge.proofs.search.after.Reads as reads
 use Rattle.judge.proofs.search.after.Lts as lts
-use Rattle.judge.proofs.roots.directory_word.Reads as directory-word-reads
 use Rattle.pages.proofs.directory_index.Reads as directory-index-reads
 use Rattle.pages.proofs.page_words.Reads as page-words-reads
 

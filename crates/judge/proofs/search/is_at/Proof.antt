@@ -9,7 +9,6 @@ use Rattle.judge.proofs.search.is_at.Statement.{statement}
 use Rattle.judge.proofs.search.is_at.Tie as tie
 use Rattle.judge.proofs.search.is_at.Reads as reads
 use Rattle.judge.proofs.search.is_at.Lts as lts
-use Rattle.judge.proofs.roots.directory_word.Reads as directory-word-reads
 use Rattle.judge.proofs.search.address_of.Reads as address-of-reads
 use Rattle.judge.proofs.search.is_sought.Reads as is-sought-reads
 use Rattle.pages.proofs.directory_index.Reads as directory-index-reads

@@ -1,7 +1,7 @@
 use mathlib.Core.Path.{refl, sym, ap, _∙_}
 use mathlib.Core.Bool.{not}
 use Rattle.judge.specs.Search.{sought}
-use Rattle.judge.proofs.Laws.Tests.{same-eqb}
+use Rattle.forms.proofs.Laws.Tests.{same-eqb}
 use borrow.Author.Needs.{needs}
 use Rattle.judge.proofs.search.is_sought.Statement.{statement}
 use Rattle.judge.proofs.search.is_sought.Tie as tie

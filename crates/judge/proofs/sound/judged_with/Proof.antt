@@ -7,7 +7,7 @@ use Rattle.walk.specs.Marks.{Seen}
 use Rattle.walk.specs.Walk as W
 use Rattle.judging.specs.Quick.{partitionTest, quickTest}
 use Rattle.soundness.specs.Test.{own, judged, under}
-use Rattle.judge.proofs.Laws.Tests.{yes, no}
+use Rattle.forms.proofs.Laws.Tests.{yes, no}
 use borrow.Author.Needs.{needs}
 use Rattle.judge.proofs.sound.judged_with.Statement.{statement}
 use Rattle.judge.proofs.sound.judged_with.Tie as tie

@@ -5,7 +5,7 @@ use lib.ListN.{length, getD}
 use lib.Dec.{eqb}
 use borrow.Author.Tests.{eq-eqb, ne-eqb}
 use Rattle.walk.specs.Finite.{from, all}
-use Rattle.judge.proofs.Laws.Loops.{all-go, all-stop, all-end}
+use Rattle.forms.proofs.Laws.Loops.{all-go, all-stop, all-end}
 use borrow.Author.Needs.{needs}
 use Rattle.judge.proofs.tree.all_marked.Statement.{statement}
 use Rattle.judge.proofs.tree.all_marked.Tie as tie
