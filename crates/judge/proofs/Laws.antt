@@ -1,8 +1,10 @@
-pub mod Whole
-pub mod Cells
-pub mod Numbers
 pub mod Search
-pub mod Counts
+pub mod Run
+pub mod Rows
+pub mod Sweeps
+pub mod Walks
+pub mod Order
+pub mod Numbers
 pub mod Marks
 pub mod Tree
 pub mod Judged

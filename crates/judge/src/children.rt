@@ -1,12 +1,15 @@
 // The children of a partition.
-use forms::child_forms;
 use pages::PhysicalPage;
+use pages::least;
 use pages::lent;
 use pages::mapping;
 use pages::page_of;
 ghost use mathlib.Core.Path.{_≡_};
+ghost use Prim.Native.Nat.{_-_, _≤_};
+ghost use lib.ListN.{length, getD};
 ghost use Rattle.memory.specs.Counts.{childAt, childOf};
-ghost use Rattle.judging.specs.Quick.{childCell};
+ghost use Rattle.judge.specs.Search.{seek};
+ghost use Rattle.judge.specs.Rows.{childWords};
 ghost use Rattle.pages.specs.Width.{Width};
 
 // A child of d stands at v: a mapping with shadow 1 word 1.
@@ -28,10 +31,27 @@ pub fn child_of(b: u32, m: &[u32], d: PhysicalPage, v: u32) -> PhysicalPage
     page_of(b, mapping(b, m, d, v))
 }
 
-// A child stands at v of d, and its descriptor and list agree with d's tables.
-pub fn child_cell(b: u32, m: &[u32], d: PhysicalPage, v: u32) -> bool
-    requires { ⌜ Width b ⌝ }
-    ensures { λ r. ⌜ r ≡ childCell b (now (m .entry)) (d .0) v ⌝ }
+// The same of its two words.
+fn is_child(w: u32, x: u32) -> bool
+    ensures { λ r. ⌜ r ≡ childWords w x ⌝ }
 {
-    child_forms(b, m, d, v, child_of(b, m, d, v))
+    if x != 1 {
+        return false;
+    }
+    w != 0
+}
+
+// The next child of a row from place i on, below n, where pt is its page table and s1 its shadow 1 table.
+pub fn next_child(pt: &[u32], s1: &[u32], n: usize, i: usize) -> usize
+    requires { ⌜ (n ≤ length (now pt)) × (n ≤ length (now s1)) ⌝ }
+    ensures { λ r. ⌜ r ≡ seek (λ j. childWords (getD (now (pt .entry)) j 0) (getD (now (s1 .entry)) j 0)) (n - i) i ⌝ }
+{
+    let mut j = i;
+    while j < n {
+        if is_child(pt[j], s1[j]) {
+            return j;
+        }
+        j += 1;
+    }
+    j
 }

@@ -1,13 +1,13 @@
 // "When memory is sound": a judgement of any lent memory. It reads words only, and each test is one of the crates soundness and judging.
 pub mod cells;
 pub mod children;
-pub mod counts;
 pub mod cycle;
 pub mod marks;
 pub mod partitions;
 pub mod root;
-pub mod search;
+pub mod rows;
 pub mod sound;
+pub mod tally;
 pub mod tree;
 
 pub use sound::is_sound;

@@ -1,28 +1,38 @@
 // What a partition is asked before its pages are marked.
-use crate::counts::lent_test;
-use crate::counts::shut_test;
-use crate::search::Ask;
-use crate::search::next;
-use crate::search::virtual_pages;
+use crate::cells::cells_test;
+use crate::tally::lent_count;
+use crate::tally::tally;
 use forms::forms_test;
 use pages::PhysicalPage;
-use pages::VirtualPage;
 use pages::mapping;
+use pages::parent;
+use pages::read_word;
 ghost use mathlib.Core.Path.{_≡_};
-ghost use Rattle.walk.specs.Finite.{all};
-ghost use Rattle.memory.specs.Counts.{tabled};
-ghost use Rattle.judging.specs.Quick.{cell, partitionTest};
+ghost use mathlib.Core.Bool.{_||_};
+ghost use lib.Dec.{eqb};
+ghost use Rattle.memory.specs.Words.{word};
+ghost use Rattle.memory.specs.Partition;
+ghost use Rattle.judging.specs.Quick.{lentCount, partitionTest};
 ghost use Rattle.pages.specs.Width.{Width};
 
-// The table words at all addresses for which d has tables.
-pub fn cells_test(b: u32, m: &[u32], d: PhysicalPage) -> bool
+// "conversely each lent page is mapped in that child once": the parent of d lends it n pages.
+pub fn lent_test(b: u32, m: &[u32], d: PhysicalPage, n: u32) -> bool
     requires { ⌜ Width b ⌝ }
-    ensures { λ r. ⌜ r ≡ all (cell b (now (m .entry)) (d .0)) (tabled b (now (m .entry)) (d .0)) ⌝ }
+    ensures { λ r.
+        ⌜
+        r
+        ≡ (eqb (d .0) 1
+        || eqb (lentCount b (now (m .entry)) (Partition.parent b (now (m .entry)) (d .0)) (word b (now (m .entry)) (d .0) 0)) n)
+        ⌝ }
 {
-    virtual_pages(b) <= next(b, m, d, Ask::Wrong, VirtualPage(0)).0
+    if d.0 == 1 {
+        return true;
+    }
+    lent_count(b, m, parent(b, m, d), read_word(b, m, d, 0)) == n
 }
 
-// Also: "Virtual page 0 is never mapped".
+// Also: "Virtual page 0 is never mapped", and "no other page that isn't lent is inaccessible" than the children's kernel pages. The counts come before the
+// cells, so that a partition with more children than its tables have room for is not looked at further.
 pub fn partition_test(b: u32, m: &[u32], d: PhysicalPage) -> bool
     requires { ⌜ Width b ⌝ }
     ensures { λ r. ⌜ r ≡ partitionTest b (now (m .entry)) (d .0) ⌝ }
@@ -30,14 +40,15 @@ pub fn partition_test(b: u32, m: &[u32], d: PhysicalPage) -> bool
     if !forms_test(b, m, d) {
         return false;
     }
-    if !cells_test(b, m, d) {
-        return false;
-    }
     if mapping(b, m, d, 0) != 0 {
         return false;
     }
-    if !shut_test(b, m, d) {
+    let t = tally(b, m, d);
+    if (t.shut as u64) != t.due {
         return false;
     }
-    lent_test(b, m, d)
+    if !lent_test(b, m, d, t.mapped) {
+        return false;
+    }
+    cells_test(b, m, d)
 }
