@@ -59,3 +59,19 @@ module _ (p : ℕ → Bool) where
   pub seek-end : (k i : ℕ) → k ≤ i → seek p (k - i) i ≡ i
   unfolding seek
   seek-end k i h = let q : k - i ≡ 0 = omega arith in ap (λ (n : ℕ). seek p n i) q
+
+  pub seek-two : (k i : ℕ) → i + 1 < k → p i ≡ false → p (i + 1) ≡ false → seek p (k - i) i ≡ seek p (k - (i + 2)) (i + 2)
+  seek-two k i h e f =
+      let q : i + 1 + 1 ≡ i + 2 = omega arith in
+      seek-on k i (omega arith) e ∙ seek-on k (i + 1) h f ∙ ap (λ (j : ℕ). seek p (k - j) j) q
+
+  pub seek-three : (k i : ℕ) → i + 2 < k → p i ≡ false → p (i + 1) ≡ false → p (i + 2) ≡ false → seek p (k - i) i ≡ seek p (k - (i + 3)) (i + 3)
+  seek-three k i h e f g =
+      let q : i + 2 + 1 ≡ i + 3 = omega arith in
+      seek-two k i (omega arith) e f ∙ seek-on k (i + 2) h g ∙ ap (λ (j : ℕ). seek p (k - j) j) q
+
+  pub seek-four : (k i : ℕ) → i + 3 < k → p i ≡ false → p (i + 1) ≡ false → p (i + 2) ≡ false → p (i + 3) ≡ false
+      → seek p (k - i) i ≡ seek p (k - (i + 4)) (i + 4)
+  seek-four k i h e f g u =
+      let q : i + 3 + 1 ≡ i + 4 = omega arith in
+      seek-three k i (omega arith) e f g ∙ seek-on k (i + 3) h u ∙ ap (λ (j : ℕ). seek p (k - j) j) q
