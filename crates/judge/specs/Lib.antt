@@ -1,3 +1,3 @@
-pub mod Asked
-pub mod Stands
 pub mod Search
+pub mod Run
+pub mod Rows

@@ -1,75 +1,87 @@
-// The three table words of a partition at one address.
-use crate::addresses::virtual_address;
+// The three table words of a partition at one address: w of the page table, x of shadow 1, y of shadow 2.
 use crate::children::child_at;
-use crate::children::child_cell;
-use crate::forms::entry_test;
+use crate::rows::address_of;
+use crate::rows::next_word;
+use crate::rows::table_of;
+use crate::rows::words_of;
+use forms::child_forms;
+use forms::entry_test;
+use forms::virtual_address;
 use pages::PhysicalPage;
-use pages::above;
+use pages::VirtualPage;
 use pages::accessible;
+use pages::directory;
 use pages::has_rights;
+use pages::least;
 use pages::lent;
 use pages::mapping;
 use pages::page_of;
+use pages::page_words;
 use pages::parent;
+use pages::read;
 use pages::read_word;
 use pages::rights;
+use pages::shadow1;
+use pages::shadow2;
 use pages::table_for;
 ghost use mathlib.Core.Path.{_≡_};
-ghost use mathlib.Core.Bool.{_||_};
+ghost use mathlib.Core.Bool.{true, _||_};
+ghost use Prim.Native.Nat.{_+_, _-_, _≤_, _<_};
 ghost use lib.Dec.{eqb};
+ghost use lib.ListN.{length, getD};
+ghost use Rattle.walk.specs.Finite.{from, all};
+ghost use Rattle.memory.specs.Geometry.{pageWords, address};
 ghost use Rattle.memory.specs.Words.{word};
 ghost use Rattle.memory.specs.Partition;
-ghost use Rattle.soundness.specs.Test.{fromParent};
+ghost use Rattle.memory.specs.Counts.{tabled};
 ghost use Rattle.judging.specs.Quick;
-ghost use Rattle.judging.specs.Quick.{lentCell, shadow1Cell, shutCell};
+ghost use Rattle.judge.specs.Search.{seek};
+ghost use Rattle.judge.specs.Run.{run, asking};
+ghost use Rattle.judge.specs.Rows.{virtualPages, anyUsed, fromWords, lentWord, shadow1Word, cellWords};
 ghost use Rattle.pages.specs.Width.{Width};
 
 // "Every page mapped in a child is mapped in its parent at the shadow 2 address, same page, same accessible bit, no right added, and the parent's shadow
-// 1 names that child": c, the child of d at v, maps a page at u.
-pub fn from_parent(b: u32, m: &[u32], d: PhysicalPage, v: u32, c: PhysicalPage, u: u32) -> bool
+// 1 names that child": p is the parent, v the child's address there.
+pub fn from_parent(b: u32, m: &[u32], p: PhysicalPage, v: u32, w: u32, y: u32) -> bool
     requires { ⌜ Width b ⌝ }
-    ensures { λ r. ⌜ r ≡ fromParent b (now (m .entry)) (d .0) v (c .0) u ⌝ }
+    ensures { λ r. ⌜ r ≡ fromWords b (now (m .entry)) (p .0) v w y ⌝ }
 {
-    let a = above(b, m, c, u);
-    let w = mapping(b, m, d, a);
-    let x = mapping(b, m, c, u);
-    if w == 0 {
+    let u = mapping(b, m, p, y);
+    if u == 0 {
         return false;
     }
-    if page_of(b, x).0 != page_of(b, w).0 {
+    if page_of(b, w).0 != page_of(b, u).0 {
         return false;
     }
-    if accessible(x) != accessible(w) {
+    if accessible(w) != accessible(u) {
         return false;
     }
-    if !has_rights(rights(x), w) {
+    if !has_rights(rights(w), u) {
         return false;
     }
-    lent(b, m, d, a) == v
+    lent(b, m, p, y) == v
 }
 
 // A mapping of the root comes from no other partition.
-pub fn origin(b: u32, m: &[u32], d: PhysicalPage, v: u32) -> bool
+pub fn origin(b: u32, m: &[u32], d: PhysicalPage, w: u32, y: u32) -> bool
     requires { ⌜ Width b ⌝ }
     ensures { λ r.
         ⌜
         r
-        ≡ (eqb (d .0) 1
-        || fromParent b (now (m .entry)) (Partition.parent b (now (m .entry)) (d .0)) (word b (now (m .entry)) (d .0) 0) (d .0) v)
+        ≡ (eqb (d .0) 1 || fromWords b (now (m .entry)) (Partition.parent b (now (m .entry)) (d .0)) (word b (now (m .entry)) (d .0) 0) w y)
         ⌝ }
 {
     if d.0 == 1 {
         return true;
     }
-    from_parent(b, m, parent(b, m, d), read_word(b, m, d, 0), d, v)
+    from_parent(b, m, parent(b, m, d), read_word(b, m, d, 0), w, y)
 }
 
 // "the virtual address of the child's descriptor if the page is lent"
-pub fn lent_cell(b: u32, m: &[u32], d: PhysicalPage, v: u32) -> bool
+pub fn lent_word(b: u32, m: &[u32], d: PhysicalPage, x: u32) -> bool
     requires { ⌜ Width b ⌝ }
-    ensures { λ r. ⌜ r ≡ lentCell b (now (m .entry)) (d .0) v ⌝ }
+    ensures { λ r. ⌜ r ≡ lentWord b (now (m .entry)) (d .0) x ⌝ }
 {
-    let x = lent(b, m, d, v);
     if !virtual_address(b, x) {
         return false;
     }
@@ -80,29 +92,28 @@ pub fn lent_cell(b: u32, m: &[u32], d: PhysicalPage, v: u32) -> bool
 }
 
 // "0, or the virtual address of the child's descriptor if the page is lent, or 1 if the page is itself a child's descriptor"
-pub fn shadow1_cell(b: u32, m: &[u32], d: PhysicalPage, v: u32) -> bool
+pub fn shadow1_word(b: u32, m: &[u32], d: PhysicalPage, v: VirtualPage, w: u32, x: u32) -> bool
     requires { ⌜ Width b ⌝ }
-    ensures { λ r. ⌜ r ≡ shadow1Cell b (now (m .entry)) (d .0) v ⌝ }
+    requires page { ⌜ v .0 < virtualPages b ⌝ }
+    ensures { λ r. ⌜ r ≡ shadow1Word b (now (m .entry)) (d .0) (address b (v .0)) w x ⌝ }
 {
-    let x = lent(b, m, d, v);
     if x == 0 {
         return true;
     }
     if x == 1 {
-        return child_cell(b, m, d, v);
+        return child_forms(b, m, d, address_of(b, v), page_of(b, w));
     }
-    lent_cell(b, m, d, v)
+    lent_word(b, m, d, x)
 }
 
 // "An absent mapping has 0 in all three table words."
-pub fn cell(b: u32, m: &[u32], d: PhysicalPage, v: u32) -> bool
+pub fn cell(b: u32, m: &[u32], d: PhysicalPage, v: VirtualPage, w: u32, x: u32, y: u32) -> bool
     requires { ⌜ Width b ⌝ }
-    ensures { λ r. ⌜ r ≡ Quick.cell b (now (m .entry)) (d .0) v ⌝ }
+    requires page { ⌜ v .0 < virtualPages b ⌝ }
+    ensures { λ r. ⌜ r ≡ cellWords b (now (m .entry)) (d .0) (address b (v .0)) w x y ⌝ }
 {
-    let w = mapping(b, m, d, v);
-    let y = above(b, m, d, v);
     if w == 0 {
-        if lent(b, m, d, v) != 0 {
+        if x != 0 {
             return false;
         }
         return y == 0;
@@ -113,23 +124,88 @@ pub fn cell(b: u32, m: &[u32], d: PhysicalPage, v: u32) -> bool
     if !virtual_address(b, y) {
         return false;
     }
-    if !shadow1_cell(b, m, d, v) {
+    if !shadow1_word(b, m, d, v, w, x) {
         return false;
     }
-    origin(b, m, d, v)
+    origin(b, m, d, w, y)
 }
 
-// A page that is neither lent nor accessible.
-pub fn shut_cell(b: u32, m: &[u32], d: PhysicalPage, v: u32) -> bool
-    requires { ⌜ Width b ⌝ }
-    ensures { λ r. ⌜ r ≡ shutCell b (now (m .entry)) (d .0) v ⌝ }
+// The first place from i on, below n, at which one of the three words is not 0.
+fn next_cell(pt: &[u32], s1: &[u32], s2: &[u32], n: usize, i: usize) -> usize
+    requires { ⌜ (n ≤ length (now pt)) × (n ≤ length (now s1)) × (n ≤ length (now s2)) ⌝ }
+    ensures { λ r. ⌜ r ≡ seek (anyUsed (now (pt .entry)) (now (s1 .entry)) (now (s2 .entry))) (n - i) i ⌝ }
 {
-    let w = mapping(b, m, d, v);
-    if w == 0 {
-        return false;
+    let mut j = i;
+    while j < n {
+        if pt[j] != 0 {
+            return j;
+        }
+        if s1[j] != 0 {
+            return j;
+        }
+        if s2[j] != 0 {
+            return j;
+        }
+        j += 1;
     }
-    if 1 < lent(b, m, d, v) {
-        return false;
+    j
+}
+
+// A row, from virtual page v on. Places at which all three words are 0 are passed over.
+pub fn cells_row(
+    b: u32,
+    m: &[u32],
+    d: PhysicalPage,
+    v: VirtualPage,
+    pt: &[u32],
+    s1: &[u32],
+    s2: &[u32],
+) -> bool
+    requires { ⌜ Width b ⌝ }
+    requires row { ⌜ v .0 + pageWords b ≤ virtualPages b ⌝ }
+    ensures { λ r.
+        ⌜
+        r
+        ≡ run (asking (λ j. cellWords b (now (m .entry)) (d .0) (address b (v .0 + j)) (getD (now (pt .entry)) j 0) (getD (now (s1 .entry)) j 0) (getD (now (s2 .entry)) j 0))) true (from (pageWords b) 0)
+        ⌝ }
+{
+    let n = least(pt.len(), least(s1.len(), s2.len()));
+    let end = page_words(b) as usize;
+    let mut j = next_cell(pt, s1, s2, n, 0);
+    while j < end {
+        if !cell(
+            b,
+            m,
+            d,
+            VirtualPage(v.0 + (j as u32)),
+            read(pt, j),
+            read(s1, j),
+            read(s2, j),
+        ) {
+            return false;
+        }
+        j = next_cell(pt, s1, s2, n, j + 1);
     }
-    accessible(w) == 0
+    true
+}
+
+// The table words at all addresses for which d has tables.
+pub fn cells_test(b: u32, m: &[u32], d: PhysicalPage) -> bool
+    requires { ⌜ Width b ⌝ }
+    ensures { λ r. ⌜ r ≡ all (Quick.cell b (now (m .entry)) (d .0)) (tabled b (now (m .entry)) (d .0)) ⌝ }
+{
+    let dir = words_of(b, m, directory(b, m, d));
+    let sh1 = words_of(b, m, shadow1(b, m, d));
+    let sh2 = words_of(b, m, shadow2(b, m, d));
+    let mut i = next_word(dir, 0);
+    while i < dir.len() {
+        let pt = table_of(b, m, dir[i]);
+        let s1 = table_of(b, m, read(sh1, i));
+        let s2 = table_of(b, m, read(sh2, i));
+        if !cells_row(b, m, d, VirtualPage((i as u32) * page_words(b)), pt, s1, s2) {
+            return false;
+        }
+        i = next_word(dir, i + 1);
+    }
+    true
 }

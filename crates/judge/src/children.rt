@@ -1,22 +1,15 @@
-// "Every shadow 1 word 1 leads to a partition whose parent is this one and whose ten descriptor words agree with the parent's tables; so does each list
-// pair."
-use crate::addresses::is_address;
-use crate::questions::Question;
-use crate::questions::each;
-use crate::questions::each_pair;
+// The children of a partition.
 use pages::PhysicalPage;
+use pages::least;
 use pages::lent;
 use pages::mapping;
 use pages::page_of;
-use pages::read_word;
-use pages::threes;
 ghost use mathlib.Core.Path.{_≡_};
-ghost use Prim.Native.Nat.{_≤_};
-ghost use Rattle.memory.specs.Geometry.{mostThrees};
-ghost use Rattle.memory.specs.Partition;
+ghost use Prim.Native.Nat.{_-_, _≤_};
+ghost use lib.ListN.{length, getD};
 ghost use Rattle.memory.specs.Counts.{childAt, childOf};
-ghost use Rattle.soundness.specs.Test.{childTest, kernelShut};
-ghost use Rattle.judging.specs.Quick.{childCell};
+ghost use Rattle.judge.specs.Search.{seek};
+ghost use Rattle.judge.specs.Rows.{childWords};
 ghost use Rattle.pages.specs.Width.{Width};
 
 // A child of d stands at v: a mapping with shadow 1 word 1.
@@ -38,50 +31,27 @@ pub fn child_of(b: u32, m: &[u32], d: PhysicalPage, v: u32) -> PhysicalPage
     page_of(b, mapping(b, m, d, v))
 }
 
-// c is the child of d that stands at v.
-pub fn child_test(b: u32, m: &[u32], d: PhysicalPage, v: u32, c: PhysicalPage) -> bool
-    requires { ⌜ Width b ⌝ }
-    requires few { ⌜ Partition.threes b (now m) (c .0) ≤ mostThrees ⌝ }
-    ensures { λ r. ⌜ r ≡ childTest b (now (m .entry)) (d .0) v (c .0) ⌝ }
+// The same of its two words.
+fn is_child(w: u32, x: u32) -> bool
+    ensures { λ r. ⌜ r ≡ childWords w x ⌝ }
 {
-    if read_word(b, m, c, 0) != v {
+    if x != 1 {
         return false;
     }
-    if !is_address(b, read_word(b, m, c, 1), c) {
-        return false;
-    }
-    if !is_address(b, read_word(b, m, c, 11), d) {
-        return false;
-    }
-    if !each(b, m, Question::DescriptorAgrees(d, c), 5) {
-        return false;
-    }
-    each_pair(b, m, Question::ListAgrees(d, c), c)
+    w != 0
 }
 
-// "A child's kernel pages are mapped inaccessible in its parent, not lent".
-pub fn kernel_shut(b: u32, m: &[u32], d: PhysicalPage, c: PhysicalPage) -> bool
-    requires { ⌜ Width b ⌝ }
-    requires few { ⌜ Partition.threes b (now m) (c .0) ≤ mostThrees ⌝ }
-    ensures { λ r. ⌜ r ≡ kernelShut b (now (m .entry)) (d .0) (c .0) ⌝ }
+// The next child of a row from place i on, below n, where pt is its page table and s1 its shadow 1 table.
+pub fn next_child(pt: &[u32], s1: &[u32], n: usize, i: usize) -> usize
+    requires { ⌜ (n ≤ length (now pt)) × (n ≤ length (now s1)) ⌝ }
+    ensures { λ r. ⌜ r ≡ seek (λ j. childWords (getD (now (pt .entry)) j 0) (getD (now (s1 .entry)) j 0)) (n - i) i ⌝ }
 {
-    if !each(b, m, Question::DescriptorShut(d, c), 5) {
-        return false;
+    let mut j = i;
+    while j < n {
+        if is_child(pt[j], s1[j]) {
+            return j;
+        }
+        j += 1;
     }
-    each_pair(b, m, Question::ListShut(d, c), c)
-}
-
-// A child stands at v of d. Its threes are counted first, so that no more than ten are looked at on any memory.
-pub fn child_cell(b: u32, m: &[u32], d: PhysicalPage, v: u32) -> bool
-    requires { ⌜ Width b ⌝ }
-    ensures { λ r. ⌜ r ≡ childCell b (now (m .entry)) (d .0) v ⌝ }
-{
-    let c = child_of(b, m, d, v);
-    if 10 < threes(b, m, c) {
-        return false;
-    }
-    if !child_test(b, m, d, v, c) {
-        return false;
-    }
-    kernel_shut(b, m, d, c)
+    j
 }

@@ -1,13 +1,16 @@
 // "Judging a partition asks the same of its children, and judging its children asks it of each partition: the depth left falls."
-use crate::children::child_of;
+use crate::children::next_child;
 use crate::marks::mark_own;
 use crate::partitions::partition_test;
-use crate::search::Ask;
-use crate::search::address_of;
-use crate::search::next;
-use crate::search::virtual_pages;
+use crate::rows::next_word;
+use crate::rows::table_of;
+use crate::rows::words_of;
 use pages::PhysicalPage;
-use pages::VirtualPage;
+use pages::directory;
+use pages::least;
+use pages::page_of;
+use pages::read;
+use pages::shadow1;
 ghost use mathlib.Core.Path.{_≡_};
 ghost use Rattle.walk.specs.Marks.{answer};
 ghost use Rattle.walk.specs.Walk as W;
@@ -43,17 +46,24 @@ pub fn judge_children(b: u32, m: &[u32], seen: &mut [u8], d: PhysicalPage, left:
         ≡ answer r (now (seen .exit))
         ⌝ }
 {
-    let end = virtual_pages(b);
-    let mut n = next(b, m, d, Ask::Child, VirtualPage(0)).0;
-    while n < end {
-        if left == 0 {
-            return false;
+    let dir = words_of(b, m, directory(b, m, d));
+    let sh1 = words_of(b, m, shadow1(b, m, d));
+    let mut i = next_word(dir, 0);
+    while i < dir.len() {
+        let pt = table_of(b, m, dir[i]);
+        let s1 = table_of(b, m, read(sh1, i));
+        let n = least(pt.len(), s1.len());
+        let mut j = next_child(pt, s1, n, 0);
+        while j < n {
+            if left == 0 {
+                return false;
+            }
+            if !judge_partition(b, m, seen, page_of(b, pt[j]), left - 1) {
+                return false;
+            }
+            j = next_child(pt, s1, n, j + 1);
         }
-        let c = child_of(b, m, d, address_of(b, VirtualPage(n)));
-        if !judge_partition(b, m, seen, c, left - 1) {
-            return false;
-        }
-        n = next(b, m, d, Ask::Child, VirtualPage(n + 1)).0;
+        i = next_word(dir, i + 1);
     }
     true
 }

@@ -1,110 +1,38 @@
 // What a partition is asked before its pages are marked.
-use crate::addresses::physical_address;
-use crate::counts::lent_test;
-use crate::counts::shut_test;
-use crate::questions::Question;
-use crate::questions::each;
-use crate::questions::each_pair;
-use crate::questions::each_word;
-use crate::roots::list_word;
-use crate::search::Ask;
-use crate::search::next;
-use crate::search::virtual_pages;
+use crate::cells::cells_test;
+use crate::tally::lent_count;
+use crate::tally::tally;
+use forms::forms_test;
 use pages::PhysicalPage;
-use pages::VirtualPage;
-use pages::list;
 use pages::mapping;
+use pages::parent;
 use pages::read_word;
-use pages::threes;
 ghost use mathlib.Core.Path.{_≡_};
-ghost use mathlib.Core.Bool.{_&&_};
-ghost use Prim.Native.Nat.{_≤_};
-ghost use Rattle.walk.specs.Finite.{from, all};
-ghost use Rattle.memory.specs.Geometry.{pageWords, mostThrees};
+ghost use mathlib.Core.Bool.{_||_};
+ghost use lib.Dec.{eqb};
+ghost use Rattle.memory.specs.Words.{word};
 ghost use Rattle.memory.specs.Partition;
-ghost use Rattle.memory.specs.Counts.{tabled};
-ghost use Rattle.soundness.specs.Test.{descriptorTest, directoryTest, listTest, threesTest};
-ghost use Rattle.judging.specs.Quick.{cell, partitionTest};
+ghost use Rattle.judging.specs.Quick.{lentCount, partitionTest};
 ghost use Rattle.pages.specs.Width.{Width};
 
-// "twelve words, pairs of virtual address in the parent and physical address ..; then 0 and the parent's descriptor address. The rest 0."
-pub fn descriptor_test(b: u32, m: &[u32], d: PhysicalPage) -> bool
-    requires { ⌜ Width b ⌝ }
-    ensures { λ r. ⌜ r ≡ descriptorTest b (now (m .entry)) (d .0) ⌝ }
-{
-    if !each(b, m, Question::DescriptorPair(d), 5) {
-        return false;
-    }
-    if read_word(b, m, d, 10) != 0 {
-        return false;
-    }
-    if !physical_address(b, m, read_word(b, m, d, 11)) {
-        return false;
-    }
-    each_word(b, m, Question::Zero(d, 12))
-}
-
-// "word 0 first free word index, 1+6n with n threes; then pairs ..; word 63 next page, here always 0. Unused words 0." and "at most 10 threes". That is
-// tested first, so that no more pairs are looked at on any memory.
-pub fn list_test(b: u32, m: &[u32], d: PhysicalPage) -> bool
-    requires { ⌜ Width b ⌝ }
-    ensures { λ r. ⌜ r ≡ listTest b (now (m .entry)) (d .0) ⌝ }
-{
-    let n = threes(b, m, d);
-    if 10 < n {
-        return false;
-    }
-    let free = list_word(b, m, d, 0);
-    if free != 1 + 6 * n {
-        return false;
-    }
-    if !each_pair(b, m, Question::ListPair(d), d) {
-        return false;
-    }
-    each_word(b, m, Question::Zero(list(b, m, d), free))
-}
-
-// "Each listed three stands at one directory index, and each index that has tables is listed once."
-pub fn threes_test(b: u32, m: &[u32], d: PhysicalPage) -> bool
-    requires { ⌜ Width b ⌝ }
-    requires few { ⌜ Partition.threes b (now m) (d .0) ≤ mostThrees ⌝ }
-    ensures { λ r. ⌜ r ≡ threesTest b (now (m .entry)) (d .0) ⌝ }
-{
-    if !each(b, m, Question::Three(d), threes(b, m, d)) {
-        return false;
-    }
-    each_word(b, m, Question::Index(d))
-}
-
-// The descriptor, the directory and its shadows, the list.
-pub fn forms_test(b: u32, m: &[u32], d: PhysicalPage) -> bool
+// "conversely each lent page is mapped in that child once": the parent of d lends it n pages.
+pub fn lent_test(b: u32, m: &[u32], d: PhysicalPage, n: u32) -> bool
     requires { ⌜ Width b ⌝ }
     ensures { λ r.
         ⌜
         r
-        ≡ (descriptorTest b (now (m .entry)) (d .0)
-        && all (directoryTest b (now (m .entry)) (d .0)) (from (pageWords b) 0)
-        && listTest b (now (m .entry)) (d .0))
+        ≡ (eqb (d .0) 1
+        || eqb (lentCount b (now (m .entry)) (Partition.parent b (now (m .entry)) (d .0)) (word b (now (m .entry)) (d .0) 0)) n)
         ⌝ }
 {
-    if !descriptor_test(b, m, d) {
-        return false;
+    if d.0 == 1 {
+        return true;
     }
-    if !each_word(b, m, Question::Directory(d)) {
-        return false;
-    }
-    list_test(b, m, d)
+    lent_count(b, m, parent(b, m, d), read_word(b, m, d, 0)) == n
 }
 
-// The table words at all addresses for which d has tables.
-pub fn cells_test(b: u32, m: &[u32], d: PhysicalPage) -> bool
-    requires { ⌜ Width b ⌝ }
-    ensures { λ r. ⌜ r ≡ all (cell b (now (m .entry)) (d .0)) (tabled b (now (m .entry)) (d .0)) ⌝ }
-{
-    virtual_pages(b) <= next(b, m, d, Ask::Wrong, VirtualPage(0)).0
-}
-
-// Also: "Virtual page 0 is never mapped".
+// Also: "Virtual page 0 is never mapped", and "no other page that isn't lent is inaccessible" than the children's kernel pages. The counts come before the
+// cells, so that a partition with more children than its tables have room for is not looked at further.
 pub fn partition_test(b: u32, m: &[u32], d: PhysicalPage) -> bool
     requires { ⌜ Width b ⌝ }
     ensures { λ r. ⌜ r ≡ partitionTest b (now (m .entry)) (d .0) ⌝ }
@@ -112,17 +40,15 @@ pub fn partition_test(b: u32, m: &[u32], d: PhysicalPage) -> bool
     if !forms_test(b, m, d) {
         return false;
     }
-    if !threes_test(b, m, d) {
-        return false;
-    }
-    if !cells_test(b, m, d) {
-        return false;
-    }
     if mapping(b, m, d, 0) != 0 {
         return false;
     }
-    if !shut_test(b, m, d) {
+    let t = tally(b, m, d);
+    if (t.shut as u64) != t.due {
         return false;
     }
-    lent_test(b, m, d)
+    if !lent_test(b, m, d, t.mapped) {
+        return false;
+    }
+    cells_test(b, m, d)
 }

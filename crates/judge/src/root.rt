@@ -1,61 +1,84 @@
 // "Root's descriptor, directory, shadow roots and list are as format leaves them; it maps exactly the flat pages, with all rights and shadow 2 words 0."
-use crate::formatted::root_mapping;
-use crate::questions::Question;
-use crate::questions::each_word;
-use crate::search::Ask;
-use crate::search::next;
-use crate::search::virtual_pages;
+use crate::rows::next_word;
+use crate::rows::table_of;
+use crate::rows::words_of;
+use forms::root_mapping;
+use forms::root_pages;
 use pages::PhysicalPage;
 use pages::VirtualPage;
-use pages::above;
-use pages::mapping;
+use pages::directory;
+use pages::page_words;
 use pages::pages;
-use pages::virtual_page;
+use pages::read;
+use pages::shadow2;
 ghost use mathlib.Core.Path.{_≡_};
+ghost use mathlib.Core.Bool.{true};
+ghost use Prim.Native.Nat.{_+_, _≤_};
+ghost use lib.ListN.{getD};
 ghost use Rattle.walk.specs.Finite.{from, all};
-ghost use Prim.Native.Nat.{_+_};
-ghost use lib.Dec.{eqb};
 ghost use Rattle.memory.specs.Geometry.{pageWords};
-ghost use Rattle.memory.specs.Words.{word};
-ghost use Rattle.memory.specs.Format.{formatWord};
-ghost use Rattle.memory.specs.Partition;
+ghost use Rattle.memory.specs.Counts.{tabled};
 ghost use Rattle.soundness.specs.Test.{rootMapTest, rootTest};
+ghost use Rattle.judge.specs.Run.{run, asking};
+ghost use Rattle.judge.specs.Rows.{virtualPages, rootWords};
 ghost use Rattle.pages.specs.Width.{Width};
 
-// The five pages of the root.
-pub fn root_pages(b: u32, m: &[u32]) -> bool
+// The root's words at virtual page v, in a memory of n pages.
+pub fn root_cell(b: u32, n: u32, v: VirtualPage, w: u32, y: u32) -> bool
     requires { ⌜ Width b ⌝ }
+    ensures { λ r. ⌜ r ≡ rootWords b n (v .0) w y ⌝ }
+{
+    if !root_mapping(b, n, v, w) {
+        return false;
+    }
+    y == 0
+}
+
+// A row of the root, from virtual page v on.
+pub fn root_row(b: u32, n: u32, v: VirtualPage, pt: &[u32], s2: &[u32]) -> bool
+    requires { ⌜ Width b ⌝ }
+    requires row { ⌜ v .0 + pageWords b ≤ virtualPages b ⌝ }
     ensures { λ r.
         ⌜
         r
-        ≡ all (λ p. all (λ i. eqb (word b (now (m .entry)) (1 + p) i) (formatWord b (Partition.pages b (now (m .entry))) (1 + p) i)) (from (pageWords b) 0)) (from 5 0)
+        ≡ run (asking (λ j. rootWords b n (v .0 + j) (getD (now (pt .entry)) j 0) (getD (now (s2 .entry)) j 0))) true (from (pageWords b) 0)
         ⌝ }
 {
-    if !each_word(b, m, Question::RootDescriptor) {
-        return false;
+    let end = page_words(b);
+    let mut j: u32 = 0;
+    while j < end {
+        if !root_cell(
+            b,
+            n,
+            VirtualPage(v.0 + j),
+            read(pt, j as usize),
+            read(s2, j as usize),
+        ) {
+            return false;
+        }
+        j += 1;
     }
-    if !each_word(b, m, Question::RootDirectory) {
-        return false;
-    }
-    if !each_word(b, m, Question::RootShadow1) {
-        return false;
-    }
-    if !each_word(b, m, Question::RootShadow2) {
-        return false;
-    }
-    each_word(b, m, Question::RootList)
+    true
 }
 
-// The table words of the root at address v.
-pub fn root_map(b: u32, m: &[u32], v: u32) -> bool
+// The root's tables.
+pub fn root_map(b: u32, m: &[u32]) -> bool
     requires { ⌜ Width b ⌝ }
-    ensures { λ r. ⌜ r ≡ rootMapTest b (now (m .entry)) v ⌝ }
+    ensures { λ r. ⌜ r ≡ all (rootMapTest b (now (m .entry))) (tabled b (now (m .entry)) 1) ⌝ }
 {
-    let w = mapping(b, m, PhysicalPage(1), v);
-    if !root_mapping(b, pages(b, m), virtual_page(b, v), w) {
-        return false;
+    let n = pages(b, m);
+    let dir = words_of(b, m, directory(b, m, PhysicalPage(1)));
+    let sh2 = words_of(b, m, shadow2(b, m, PhysicalPage(1)));
+    let mut i = next_word(dir, 0);
+    while i < dir.len() {
+        let pt = table_of(b, m, dir[i]);
+        let s2 = table_of(b, m, read(sh2, i));
+        if !root_row(b, n, VirtualPage((i as u32) * page_words(b)), pt, s2) {
+            return false;
+        }
+        i = next_word(dir, i + 1);
     }
-    above(b, m, PhysicalPage(1), v) == 0
+    true
 }
 
 pub fn root_test(b: u32, m: &[u32]) -> bool
@@ -65,5 +88,5 @@ pub fn root_test(b: u32, m: &[u32]) -> bool
     if !root_pages(b, m) {
         return false;
     }
-    virtual_pages(b) <= next(b, m, PhysicalPage(1), Ask::WrongInRoot, VirtualPage(0)).0
+    root_map(b, m)
 }

@@ -1,8 +1,8 @@
 // The judgement of a memory, whole.
-use crate::header::header_test;
 use crate::root::root_test;
 use crate::tree::tree_test;
 use crate::tree::under;
+use forms::header_test;
 use pages::current;
 use pages::pages;
 use pages::width;

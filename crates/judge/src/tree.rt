@@ -1,8 +1,8 @@
 // "The tree is at most 8 below the root; current is in it." and "Pages 1 to N−1 are each in exactly one hand or one kernel use."
-use crate::addresses::virtual_address;
 use crate::children::child_at;
 use crate::children::child_of;
 use crate::cycle::judge_partition;
+use forms::virtual_address;
 use pages::PhysicalPage;
 use pages::parent;
 use pages::read_word;

@@ -1,6 +1,6 @@
 -- The judgement of the whole, in the code's terms. Assumes nothing.
 use mathlib.Core.Path.{_≡_, refl, sym, ap, _∙_}
-use mathlib.Core.Bool.{Bool, true, false, _&&_, false≢true}
+use mathlib.Core.Bool.{true, false, _&&_, false≢true}
 use mathlib.Core.List.{List, _∷_}
 use mathlib.Core.Option.{Option, none, some}
 use Prim.Native.Nat.{ℕ, zero, suc, _-_, _*_, _≤_, _<_}
@@ -15,7 +15,7 @@ use Rattle.walk.specs.Walk.{clear}
 use Rattle.memory.specs.Geometry.{pageWords, leastPages, mostPages}
 use Rattle.memory.specs.Partition.{pages}
 use Rattle.soundness.specs.Test.{headerTest, judged, soundTest}
-use Rattle.judge.proofs.Laws.Tests.{and-false}
+use Rattle.forms.proofs.Laws.Tests.{and-false}
 
 take-zeros : (n k : ℕ) → n ≤ k → take n (replicate {A = ℕ} k 0) ≡ replicate n 0
 take-zeros zero k h = refl

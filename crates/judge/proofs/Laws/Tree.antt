@@ -5,7 +5,6 @@ use mathlib.Core.List.{List}
 use mathlib.Core.Logic.{_≢_}
 use Prim.Native.Nat.{ℕ, zero, suc, _-_, _≤_, _<_}
 use native.Mathlib.Omega.{arith}
-use native.Mathlib.Decide.{decLt}
 use lib.Dec.{eqb}
 use borrow.Author.Tests.{eq-eqb, ne-eqb}
 use Rattle.walk.specs.Finite.{from, all}
@@ -15,21 +14,11 @@ use Rattle.memory.specs.Partition.{parent, threes, tableFor}
 use Rattle.memory.specs.Counts.{childAt, childOf}
 use Rattle.soundness.specs.Test.{virtual, descriptorTest, directoryTest, listTest, placed, under}
 use Rattle.judging.specs.Quick.{partitionTest}
-use Rattle.judge.proofs.Laws.Tests.{and-false}
-use Rattle.judge.proofs.Laws.Whole.{list-many}
+use Rattle.forms.proofs.Laws.Tests.{and-false}
+use Rattle.forms.proofs.Laws.Whole.{list-few}
 
 module _ (b : ℕ) (m : List ℕ) where
-  -- a list that passed has few enough threes
-  list-few : (d : ℕ) → listTest b m d ≡ true → threes b m d ≤ mostThrees
-  list-few d e = elim (decLt mostThrees (threes b m d)) [ yes h ↦ absurd (false≢true (list-many b m d h ∙ e)) | no h ↦ omega arith ]
-
-  pub forms-few : (d : ℕ) → descriptorTest b m d && all (directoryTest b m d) (from (pageWords b) 0) && listTest b m d ≡ true → threes b m d ≤ mostThrees
-  forms-few d e = go (listTest b m d) refl
-    where
-      go : (t : Bool) → listTest b m d ≡ t → threes b m d ≤ mostThrees
-      go true q = list-few d q
-      go false q = absurd (false≢true (sym (and-false (descriptorTest b m d && all (directoryTest b m d) (from (pageWords b) 0))) ∙ rw q at e))
-
+  -- a partition that passed has few enough threes in its list
   pub partition-few : (d : ℕ) → partitionTest b m d ≡ true → threes b m d ≤ mostThrees
   partition-few d e = go (listTest b m d) refl
     where
@@ -37,7 +26,7 @@ module _ (b : ℕ) (m : List ℕ) where
       none q = unfold partitionTest in (rw (q, and-false (descriptorTest b m d && all (directoryTest b m d) (from (pageWords b) 0))) refl)
 
       go : (t : Bool) → listTest b m d ≡ t → threes b m d ≤ mostThrees
-      go true q = list-few d q
+      go true q = list-few b m d q
       go false q = absurd (false≢true (sym (none q) ∙ e))
 
   -- up from c, n steps at most

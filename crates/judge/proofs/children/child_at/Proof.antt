@@ -1,13 +1,9 @@
 use mathlib.Core.Path.{refl}
 use Rattle.memory.specs.Counts.{childAt}
-use Rattle.judge.proofs.Laws.Tests.{unequal, equal, same-eqb}
+use Rattle.forms.proofs.Laws.Tests.{unequal, equal, same-eqb}
 use borrow.Author.Needs.{needs}
 use Rattle.judge.proofs.children.child_at.Statement.{statement}
 use Rattle.judge.proofs.children.child_at.Tie as tie
-use Rattle.judge.proofs.children.child_at.Reads as reads
-use Rattle.judge.proofs.children.child_at.Lts as lts
-use Rattle.pages.proofs.lent.Reads as lent-reads
-use Rattle.pages.proofs.mapping.Reads as mapping-reads
 
 -- src/children.rt:27:8
 mapping-requires : tie.Need-mapping-requires

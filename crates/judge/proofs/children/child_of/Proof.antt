@@ -4,10 +4,6 @@ use Rattle.memory.specs.Counts.{childOf}
 use borrow.Author.Needs.{needs}
 use Rattle.judge.proofs.children.child_of.Statement.{statement}
 use Rattle.judge.proofs.children.child_of.Tie as tie
-use Rattle.judge.proofs.children.child_of.Reads as reads
-use Rattle.judge.proofs.children.child_of.Lts as lts
-use Rattle.pages.proofs.page_of.Reads as page-of-reads
-use Rattle.pages.proofs.mapping.Reads as mapping-reads
 
 -- src/children.rt:38:16
 mapping-requires : tie.Need-mapping-requires

@@ -1,23 +1,30 @@
-use Prim.Native.Nat.{_+_, _-_}
+use Prim.Native.Nat.{_+_, _-_, _≤_}
 use mathlib.Core.Path.{_≡_, refl, sym, ap, _∙_}
+use mathlib.Core.Bool.{true}
+use mathlib.Core.Option.{some}
 use native.Mathlib.Nat.{pos-of-ne-zero}
 use native.Mathlib.Omega.{arith}
-use lib.ListN.{length}
+use lib.ListN.{length, getD}
+use borrow.Author.Needs.{needs}
 use borrow.Author.Tests.{not-true, not-false}
-use Rattle.judging.specs.Quick.{partitionTest}
-use Rattle.soundness.specs.Test.{own}
-use Rattle.memory.specs.Counts.{childAt, childOf, children}
-use Rattle.walk.specs.Finite.{image}
+use Rattle.walk.specs.Finite.{from}
 use Rattle.walk.specs.Marks.{passed, failed, each}
 use Rattle.walk.specs.Walk as W
 use Rattle.walk.specs.Walk.{judge-bad, judge-stop, judge-go, child-none, child-next}
-use Rattle.judge.specs.Search.{virtualPages, at}
+use Rattle.memory.specs.Geometry.{pageWords, pageOf}
+use Rattle.memory.specs.Words.{page}
+use Rattle.memory.specs.Partition.{directory, shadow1, mapping, lent}
+use Rattle.memory.specs.Counts.{children}
+use Rattle.soundness.specs.Test.{own}
+use Rattle.judging.specs.Quick.{partitionTest}
+use Rattle.judge.specs.Run.{run, marking}
+use Rattle.judge.specs.Rows.{used, childWords}
 use Rattle.judge.proofs.Laws.Tree.{partition-few}
-use Rattle.judge.proofs.Laws.Tests.{yes, no}
-use Rattle.judge.proofs.Laws.Search.{found, seek-ge}
-use Rattle.judge.proofs.Laws.Counts.{childOn, children-start}
-use Rattle.judge.proofs.Laws.Marks.{walk-went, walk-failed, walk-barred, walk-end}
-use borrow.Author.Needs.{needs}
+use Rattle.forms.proofs.Laws.Tests.{yes, no}
+use Rattle.judge.proofs.Laws.Search.{next-low, next-high, next-here}
+use Rattle.judge.proofs.Laws.Rows.{rowStep, rows-first, rows-next, rows-end}
+use Rattle.judge.proofs.Laws.Sweeps.{childStep, children-run, children-row}
+use Rattle.judge.proofs.Laws.Walks.{rows-stop, picked-first, picked-next, picked-fails, picked-end, picked-is, child-short, child-rest}
 use Prim.Native.Nat.{ℕ, _<_}
 use borrow.Fn.Kinds.{In}
 use borrow.Fn.PlainCycle.{Measures, is, falls, and}
@@ -27,12 +34,17 @@ use Rattle.judge.proofs.cycle.+judge_children+judge_partition.Lts-judge
 use Rattle.judge.proofs.cycle.judge_partition.Reads as judge-partition
 use Rattle.judge.proofs.cycle.judge_partition.Kinds as judge-partition-kinds
 use Rattle.judge.proofs.cycle.+judge_children+judge_partition.Lts-judge_partition as judge-partition-lts
-use Rattle.judge.proofs.children.child_of.Reads as child-of-reads
+use Rattle.judge.proofs.children.next_child.Reads as next-child-reads
 use Rattle.judge.proofs.marks.mark_own.Reads as mark-own-reads
 use Rattle.judge.proofs.partitions.partition_test.Reads as partition-test-reads
-use Rattle.judge.proofs.search.address_of.Reads as address-of-reads
-use Rattle.judge.proofs.search.next.Reads as next-reads
-use Rattle.judge.proofs.search.virtual_pages.Reads as virtual-pages-reads
+use Rattle.judge.proofs.rows.next_word.Reads as next-word-reads
+use Rattle.judge.proofs.rows.table_of.Reads as table-of-reads
+use Rattle.judge.proofs.rows.words_of.Reads as words-of-reads
+use Rattle.pages.proofs.page_of.Reads as page-of-reads
+use Rattle.pages.proofs.directory.Reads as directory-reads
+use Rattle.pages.proofs.shadow1.Reads as shadow1-reads
+use Rattle.pages.proofs.least.Reads as least-reads
+use Rattle.pages.proofs.read.Reads as read-reads
 use Rattle.judge.proofs.cycle.+judge_children+judge_partition.{statement}
 use Rattle.judge.proofs.cycle.+judge_children+judge_partition.Tie.{close}
 
@@ -74,269 +86,1087 @@ judge-partition-below t =
     (falls 2 judge-partition-kinds.ps _<_ μ-judge-partition t)
     judge-partition.Pre
 
+abbrev judge-children-Inv-loop2 : judge-children-lts.InvT-loop2
+judge-children-Inv-loop2 b m seen₀ left dir sh1 i pt s1 n j₀ seen j = (length seen ≡ length seen₀) × (j ≤ n) × (j < n → childWords (getD pt j 0) (getD s1 j 0) ≡ true) × (run (marking (λ k. childWords (getD pt k 0) (getD s1 k 0)) (λ t k. W.child (children b m) (own b m) (partitionTest b m) left t (pageOf b (getD pt k 0)))) (some seen₀) (from (pageWords b) 0) ≡ run (marking (λ k. childWords (getD pt k 0) (getD s1 k 0)) (λ t k. W.child (children b m) (own b m) (partitionTest b m) left t (pageOf b (getD pt k 0)))) (some seen) (from (pageWords b - j) j))
+
+abbrev judge-children-μ-loop2 : judge-children-lts.MeasureT-loop2
+judge-children-μ-loop2 b m seen₀ left dir sh1 i pt s1 n j₀ seen j = n - j
+
 abbrev judge-children-Inv-loop : judge-children-lts.InvT-loop
-judge-children-Inv-loop b m seen₀ d left end n₀ seen n = (length seen ≡ length seen₀) × (W.judges (children b m) (own b m) (partitionTest b m) left seen₀ (children b m (d .0)) ≡ each (W.child (children b m) (own b m) (partitionTest b m) left) seen (image (childOn b m (d .0)) (found (at b m (d .0) (childAt b m (d .0))) (virtualPages b) n)))
+judge-children-Inv-loop b m seen₀ left dir sh1 i₀ seen i = (length seen ≡ length seen₀) × (i ≤ length dir) × (i < length dir → used dir i ≡ true) × ((d : ℕ) → dir ≡ page b m (directory b m d) → sh1 ≡ page b m (shadow1 b m d) → each (W.child (children b m) (own b m) (partitionTest b m) left) seen₀ (children b m d) ≡ run (rowStep b m (childStep b m d (W.child (children b m) (own b m) (partitionTest b m) left)) d) (some seen) (from (pageWords b - i) i))
 
 abbrev judge-children-μ-loop : judge-children-lts.MeasureT-loop
-judge-children-μ-loop b m seen₀ d left end n₀ seen n = virtualPages b - n
+judge-children-μ-loop b m seen₀ left dir sh1 i₀ seen i = length dir - i
+
+-- src/cycle.rt:49:30
+judge-children-directory-requires : (t : ℕ) → judge-children-lts.Need-directory-requires (
+  directory-reads.Asked,
+  directory-reads.Learnt,
+  words-of-reads.Asked,
+  words-of-reads.Learnt,
+  shadow1-reads.Asked,
+  shadow1-reads.Learnt,
+  next-word-reads.Asked,
+  next-word-reads.Learnt,
+  table-of-reads.Asked,
+  table-of-reads.Learnt,
+  read-reads.Asked,
+  read-reads.Learnt,
+  least-reads.Asked,
+  least-reads.Learnt,
+  next-child-reads.Asked,
+  next-child-reads.Learnt,
+  page-of-reads.Asked,
+  page-of-reads.Learnt,
+  judge-partition-below t,
+  judge-partition.Post,
+)
+    (judge-children-at t)
+    judge-children.Post
+    judge-children-Inv-loop2
+    judge-children-μ-loop2
+    judge-children-Inv-loop
+    judge-children-μ-loop
+judge-children-directory-requires t c κs = search needs
+
+-- src/cycle.rt:49:9
+judge-children-words-of-requires : (t : ℕ) → judge-children-lts.Need-words-of-requires (
+  directory-reads.Asked,
+  directory-reads.Learnt,
+  words-of-reads.Asked,
+  words-of-reads.Learnt,
+  shadow1-reads.Asked,
+  shadow1-reads.Learnt,
+  next-word-reads.Asked,
+  next-word-reads.Learnt,
+  table-of-reads.Asked,
+  table-of-reads.Learnt,
+  read-reads.Asked,
+  read-reads.Learnt,
+  least-reads.Asked,
+  least-reads.Learnt,
+  next-child-reads.Asked,
+  next-child-reads.Learnt,
+  page-of-reads.Asked,
+  page-of-reads.Learnt,
+  judge-partition-below t,
+  judge-partition.Post,
+)
+    (judge-children-at t)
+    judge-children.Post
+    judge-children-Inv-loop2
+    judge-children-μ-loop2
+    judge-children-Inv-loop
+    judge-children-μ-loop
+judge-children-words-of-requires t c κs = search needs
+
+-- src/cycle.rt:50:30
+judge-children-shadow1-requires : (t : ℕ) → judge-children-lts.Need-shadow1-requires (
+  directory-reads.Asked,
+  directory-reads.Learnt,
+  words-of-reads.Asked,
+  words-of-reads.Learnt,
+  shadow1-reads.Asked,
+  shadow1-reads.Learnt,
+  next-word-reads.Asked,
+  next-word-reads.Learnt,
+  table-of-reads.Asked,
+  table-of-reads.Learnt,
+  read-reads.Asked,
+  read-reads.Learnt,
+  least-reads.Asked,
+  least-reads.Learnt,
+  next-child-reads.Asked,
+  next-child-reads.Learnt,
+  page-of-reads.Asked,
+  page-of-reads.Learnt,
+  judge-partition-below t,
+  judge-partition.Post,
+)
+    (judge-children-at t)
+    judge-children.Post
+    judge-children-Inv-loop2
+    judge-children-μ-loop2
+    judge-children-Inv-loop
+    judge-children-μ-loop
+judge-children-shadow1-requires t c κs = search needs
 
 -- src/cycle.rt:50:9
-judge-children-virtual-pages-requires : (t : ℕ) → judge-children-lts.Need-virtual-pages-requires (
-  virtual-pages-reads.Asked,
-  virtual-pages-reads.Learnt,
-  next-reads.Asked,
-  next-reads.Learnt,
-  address-of-reads.Asked,
-  address-of-reads.Learnt,
-  child-of-reads.Asked,
-  child-of-reads.Learnt,
+judge-children-words-of-requires-2 : (t : ℕ) → judge-children-lts.Need-words-of-requires-2 (
+  directory-reads.Asked,
+  directory-reads.Learnt,
+  words-of-reads.Asked,
+  words-of-reads.Learnt,
+  shadow1-reads.Asked,
+  shadow1-reads.Learnt,
+  next-word-reads.Asked,
+  next-word-reads.Learnt,
+  table-of-reads.Asked,
+  table-of-reads.Learnt,
+  read-reads.Asked,
+  read-reads.Learnt,
+  least-reads.Asked,
+  least-reads.Learnt,
+  next-child-reads.Asked,
+  next-child-reads.Learnt,
+  page-of-reads.Asked,
+  page-of-reads.Learnt,
   judge-partition-below t,
   judge-partition.Post,
-) (judge-children-at t) judge-children.Post judge-children-Inv-loop judge-children-μ-loop
-judge-children-virtual-pages-requires t c κs = search needs
+)
+    (judge-children-at t)
+    judge-children.Post
+    judge-children-Inv-loop2
+    judge-children-μ-loop2
+    judge-children-Inv-loop
+    judge-children-μ-loop
+judge-children-words-of-requires-2 t c κs = search needs
 
--- src/cycle.rt:51:17
-judge-children-next-requires : (t : ℕ) → judge-children-lts.Need-next-requires (
-  virtual-pages-reads.Asked,
-  virtual-pages-reads.Learnt,
-  next-reads.Asked,
-  next-reads.Learnt,
-  address-of-reads.Asked,
-  address-of-reads.Learnt,
-  child-of-reads.Asked,
-  child-of-reads.Learnt,
+-- src/cycle.rt:51:9
+judge-children-next-word-requires : (t : ℕ) → judge-children-lts.Need-next-word-requires (
+  directory-reads.Asked,
+  directory-reads.Learnt,
+  words-of-reads.Asked,
+  words-of-reads.Learnt,
+  shadow1-reads.Asked,
+  shadow1-reads.Learnt,
+  next-word-reads.Asked,
+  next-word-reads.Learnt,
+  table-of-reads.Asked,
+  table-of-reads.Learnt,
+  read-reads.Asked,
+  read-reads.Learnt,
+  least-reads.Asked,
+  least-reads.Learnt,
+  next-child-reads.Asked,
+  next-child-reads.Learnt,
+  page-of-reads.Asked,
+  page-of-reads.Learnt,
   judge-partition-below t,
   judge-partition.Post,
-) (judge-children-at t) judge-children.Post judge-children-Inv-loop judge-children-μ-loop
-judge-children-next-requires t c κs = search needs
+)
+    (judge-children-at t)
+    judge-children.Post
+    judge-children-Inv-loop2
+    judge-children-μ-loop2
+    judge-children-Inv-loop
+    judge-children-μ-loop
+judge-children-next-word-requires t c κs = search needs
 
 -- src/cycle.rt:52:5
 judge-children-loop-holds : (t : ℕ) → judge-children-lts.Need-loop-holds (
-  virtual-pages-reads.Asked,
-  virtual-pages-reads.Learnt,
-  next-reads.Asked,
-  next-reads.Learnt,
-  address-of-reads.Asked,
-  address-of-reads.Learnt,
-  child-of-reads.Asked,
-  child-of-reads.Learnt,
+  directory-reads.Asked,
+  directory-reads.Learnt,
+  words-of-reads.Asked,
+  words-of-reads.Learnt,
+  shadow1-reads.Asked,
+  shadow1-reads.Learnt,
+  next-word-reads.Asked,
+  next-word-reads.Learnt,
+  table-of-reads.Asked,
+  table-of-reads.Learnt,
+  read-reads.Asked,
+  read-reads.Learnt,
+  least-reads.Asked,
+  least-reads.Learnt,
+  next-child-reads.Asked,
+  next-child-reads.Learnt,
+  page-of-reads.Asked,
+  page-of-reads.Learnt,
   judge-partition-below t,
   judge-partition.Post,
-) (judge-children-at t) judge-children.Post judge-children-Inv-loop judge-children-μ-loop
-judge-children-loop-holds t c = (refl, ap (each (W.child (children (c .before .before .before .before .args .b) (c .before .before .before .before .args .m .now)) (own (c .before .before .before .before .args .b) (c .before .before .before .before .args .m .now)) (partitionTest (c .before .before .before .before .args .b) (c .before .before .before .before .args .m .now)) (c .before .before .before .before .args .left)) (c .before .before .before .before .args .seen .now)) (children-start (c .before .before .before .before .args .b) (c .before .before .before .before .args .m .now) (c .before .before .before .before .args .d .0) (c .next .ensures)))
+)
+    (judge-children-at t)
+    judge-children.Post
+    judge-children-Inv-loop2
+    judge-children-μ-loop2
+    judge-children-Inv-loop
+    judge-children-μ-loop
+judge-children-loop-holds t c =
+    let s = c .before .before .before .before .before .before .before .args in
+    let dir = c .before .before .before .words-of .result .now in
+    (refl, next-high (used dir) (length dir) 0 (omega arith) (c .next-word .ensures), next-here (used dir) (length dir) 0 (omega arith) (c .next-word .ensures), λ d e e1. rows-first (s .b) (s .m .now) (childStep (s .b) (s .m .now) d (W.child (children (s .b) (s .m .now)) (own (s .b) (s .m .now)) (partitionTest (s .b) (s .m .now)) (s .left))) d dir e (some (s .seen .now)) (children-run (s .b) (s .m .now) d (W.child (children (s .b) (s .m .now)) (own (s .b) (s .m .now)) (partitionTest (s .b) (s .m .now)) (s .left)) (s .seen .now)) (c .next-word .ensures))
 
--- src/cycle.rt:54:13
-judge-children-same-length : (t : ℕ) → judge-children-lts.Need-same-length (
-  virtual-pages-reads.Asked,
-  virtual-pages-reads.Learnt,
-  next-reads.Asked,
-  next-reads.Learnt,
-  address-of-reads.Asked,
-  address-of-reads.Learnt,
-  child-of-reads.Asked,
-  child-of-reads.Learnt,
+-- src/cycle.rt:53:33
+judge-children-mul-table-of : (t : ℕ) → judge-children-lts.Need-mul-table-of (
+  directory-reads.Asked,
+  directory-reads.Learnt,
+  words-of-reads.Asked,
+  words-of-reads.Learnt,
+  shadow1-reads.Asked,
+  shadow1-reads.Learnt,
+  next-word-reads.Asked,
+  next-word-reads.Learnt,
+  table-of-reads.Asked,
+  table-of-reads.Learnt,
+  read-reads.Asked,
+  read-reads.Learnt,
+  least-reads.Asked,
+  least-reads.Learnt,
+  next-child-reads.Asked,
+  next-child-reads.Learnt,
+  page-of-reads.Asked,
+  page-of-reads.Learnt,
   judge-partition-below t,
   judge-partition.Post,
-) (judge-children-at t) judge-children.Post judge-children-Inv-loop judge-children-μ-loop
-judge-children-same-length t c = search needs
+)
+    (judge-children-at t)
+    judge-children.Post
+    judge-children-Inv-loop2
+    judge-children-μ-loop2
+    judge-children-Inv-loop
+    judge-children-μ-loop
+judge-children-mul-table-of t c = search needs
 
--- src/cycle.rt:54:13
-judge-children-returns : (t : ℕ) → judge-children-lts.Need-returns (
-  virtual-pages-reads.Asked,
-  virtual-pages-reads.Learnt,
-  next-reads.Asked,
-  next-reads.Learnt,
-  address-of-reads.Asked,
-  address-of-reads.Learnt,
-  child-of-reads.Asked,
-  child-of-reads.Learnt,
-  judge-partition-below t,
-  judge-partition.Post,
-) (judge-children-at t) judge-children.Post judge-children-Inv-loop judge-children-μ-loop
-judge-children-returns t c = walk-barred (W.child (children (c .before .before .before .before .before .before .before .args .b) (c .before .before .before .before .before .before .before .args .m .now)) (own (c .before .before .before .before .before .before .before .args .b) (c .before .before .before .before .before .before .before .args .m .now)) (partitionTest (c .before .before .before .before .before .before .before .args .b) (c .before .before .before .before .before .before .before .args .m .now)) (c .before .before .before .before .before .before .before .args .left)) (childOn (c .before .before .before .before .before .before .before .args .b) (c .before .before .before .before .before .before .before .args .m .now) (c .before .before .before .before .before .before .before .args .d .0)) (at (c .before .before .before .before .before .before .before .args .b) (c .before .before .before .before .before .before .before .args .m .now) (c .before .before .before .before .before .before .before .args .d .0) (childAt (c .before .before .before .before .before .before .before .args .b) (c .before .before .before .before .before .before .before .args .m .now) (c .before .before .before .before .before .before .before .args .d .0))) (virtualPages (c .before .before .before .before .before .before .before .args .b)) (c .before .before .loop .n) (c .before .before .loop .seen) (omega arith) (child-none _ _ _ _ _ _ (c .if1 .taken)) (c .before .before .loop .inv .1)
-
--- src/cycle.rt:56:35
-judge-children-address-of-requires : (t : ℕ) → judge-children-lts.Need-address-of-requires (
-  virtual-pages-reads.Asked,
-  virtual-pages-reads.Learnt,
-  next-reads.Asked,
-  next-reads.Learnt,
-  address-of-reads.Asked,
-  address-of-reads.Learnt,
-  child-of-reads.Asked,
-  child-of-reads.Learnt,
-  judge-partition-below t,
-  judge-partition.Post,
-) (judge-children-at t) judge-children.Post judge-children-Inv-loop judge-children-μ-loop
-judge-children-address-of-requires t c κs = search needs
-
--- src/cycle.rt:56:13
-judge-children-child-of-requires : (t : ℕ) → judge-children-lts.Need-child-of-requires (
-  virtual-pages-reads.Asked,
-  virtual-pages-reads.Learnt,
-  next-reads.Asked,
-  next-reads.Learnt,
-  address-of-reads.Asked,
-  address-of-reads.Learnt,
-  child-of-reads.Asked,
-  child-of-reads.Learnt,
-  judge-partition-below t,
-  judge-partition.Post,
-) (judge-children-at t) judge-children.Post judge-children-Inv-loop judge-children-μ-loop
-judge-children-child-of-requires t c κs = search needs
-
--- src/cycle.rt:57:44
-judge-children-sub-judge-partition : (t : ℕ) → judge-children-lts.Need-sub-judge-partition (
-  virtual-pages-reads.Asked,
-  virtual-pages-reads.Learnt,
-  next-reads.Asked,
-  next-reads.Learnt,
-  address-of-reads.Asked,
-  address-of-reads.Learnt,
-  child-of-reads.Asked,
-  child-of-reads.Learnt,
-  judge-partition-below t,
-  judge-partition.Post,
-) (judge-children-at t) judge-children.Post judge-children-Inv-loop judge-children-μ-loop
-judge-children-sub-judge-partition t c = search needs
-
--- src/cycle.rt:57:13
-judge-children-judge-partition-requires :
-    (t : ℕ) → judge-children-lts.Need-judge-partition-requires (
-      virtual-pages-reads.Asked,
-      virtual-pages-reads.Learnt,
-      next-reads.Asked,
-      next-reads.Learnt,
-      address-of-reads.Asked,
-      address-of-reads.Learnt,
-      child-of-reads.Asked,
-      child-of-reads.Learnt,
+-- src/cycle.rt:53:33
+judge-children-shared-slice-read-table-of :
+    (t : ℕ) → judge-children-lts.Need-shared-slice-read-table-of (
+      directory-reads.Asked,
+      directory-reads.Learnt,
+      words-of-reads.Asked,
+      words-of-reads.Learnt,
+      shadow1-reads.Asked,
+      shadow1-reads.Learnt,
+      next-word-reads.Asked,
+      next-word-reads.Learnt,
+      table-of-reads.Asked,
+      table-of-reads.Learnt,
+      read-reads.Asked,
+      read-reads.Learnt,
+      least-reads.Asked,
+      least-reads.Learnt,
+      next-child-reads.Asked,
+      next-child-reads.Learnt,
+      page-of-reads.Asked,
+      page-of-reads.Learnt,
       judge-partition-below t,
       judge-partition.Post,
-    ) (judge-children-at t) judge-children.Post judge-children-Inv-loop judge-children-μ-loop
-judge-children-judge-partition-requires t c κs = search needs
+    )
+    (judge-children-at t)
+    judge-children.Post
+    judge-children-Inv-loop2
+    judge-children-μ-loop2
+    judge-children-Inv-loop
+    judge-children-μ-loop
+judge-children-shared-slice-read-table-of t c = search needs
 
--- src/cycle.rt:58:13
-judge-children-same-length-2 : (t : ℕ) → judge-children-lts.Need-same-length-2 (
-  virtual-pages-reads.Asked,
-  virtual-pages-reads.Learnt,
-  next-reads.Asked,
-  next-reads.Learnt,
-  address-of-reads.Asked,
-  address-of-reads.Learnt,
-  child-of-reads.Asked,
-  child-of-reads.Learnt,
+-- src/cycle.rt:53:13
+judge-children-table-of-requires : (t : ℕ) → judge-children-lts.Need-table-of-requires (
+  directory-reads.Asked,
+  directory-reads.Learnt,
+  words-of-reads.Asked,
+  words-of-reads.Learnt,
+  shadow1-reads.Asked,
+  shadow1-reads.Learnt,
+  next-word-reads.Asked,
+  next-word-reads.Learnt,
+  table-of-reads.Asked,
+  table-of-reads.Learnt,
+  read-reads.Asked,
+  read-reads.Learnt,
+  least-reads.Asked,
+  least-reads.Learnt,
+  next-child-reads.Asked,
+  next-child-reads.Learnt,
+  page-of-reads.Asked,
+  page-of-reads.Learnt,
   judge-partition-below t,
   judge-partition.Post,
-) (judge-children-at t) judge-children.Post judge-children-Inv-loop judge-children-μ-loop
+)
+    (judge-children-at t)
+    judge-children.Post
+    judge-children-Inv-loop2
+    judge-children-μ-loop2
+    judge-children-Inv-loop
+    judge-children-μ-loop
+judge-children-table-of-requires t c κs = search needs
+
+-- src/cycle.rt:54:33
+judge-children-read-requires : (t : ℕ) → judge-children-lts.Need-read-requires (
+  directory-reads.Asked,
+  directory-reads.Learnt,
+  words-of-reads.Asked,
+  words-of-reads.Learnt,
+  shadow1-reads.Asked,
+  shadow1-reads.Learnt,
+  next-word-reads.Asked,
+  next-word-reads.Learnt,
+  table-of-reads.Asked,
+  table-of-reads.Learnt,
+  read-reads.Asked,
+  read-reads.Learnt,
+  least-reads.Asked,
+  least-reads.Learnt,
+  next-child-reads.Asked,
+  next-child-reads.Learnt,
+  page-of-reads.Asked,
+  page-of-reads.Learnt,
+  judge-partition-below t,
+  judge-partition.Post,
+)
+    (judge-children-at t)
+    judge-children.Post
+    judge-children-Inv-loop2
+    judge-children-μ-loop2
+    judge-children-Inv-loop
+    judge-children-μ-loop
+judge-children-read-requires t c κs = search needs
+
+-- src/cycle.rt:54:13
+judge-children-table-of-requires-2 : (t : ℕ) → judge-children-lts.Need-table-of-requires-2 (
+  directory-reads.Asked,
+  directory-reads.Learnt,
+  words-of-reads.Asked,
+  words-of-reads.Learnt,
+  shadow1-reads.Asked,
+  shadow1-reads.Learnt,
+  next-word-reads.Asked,
+  next-word-reads.Learnt,
+  table-of-reads.Asked,
+  table-of-reads.Learnt,
+  read-reads.Asked,
+  read-reads.Learnt,
+  least-reads.Asked,
+  least-reads.Learnt,
+  next-child-reads.Asked,
+  next-child-reads.Learnt,
+  page-of-reads.Asked,
+  page-of-reads.Learnt,
+  judge-partition-below t,
+  judge-partition.Post,
+)
+    (judge-children-at t)
+    judge-children.Post
+    judge-children-Inv-loop2
+    judge-children-μ-loop2
+    judge-children-Inv-loop
+    judge-children-μ-loop
+judge-children-table-of-requires-2 t c κs = search needs
+
+-- src/cycle.rt:55:13
+judge-children-least-requires : (t : ℕ) → judge-children-lts.Need-least-requires (
+  directory-reads.Asked,
+  directory-reads.Learnt,
+  words-of-reads.Asked,
+  words-of-reads.Learnt,
+  shadow1-reads.Asked,
+  shadow1-reads.Learnt,
+  next-word-reads.Asked,
+  next-word-reads.Learnt,
+  table-of-reads.Asked,
+  table-of-reads.Learnt,
+  read-reads.Asked,
+  read-reads.Learnt,
+  least-reads.Asked,
+  least-reads.Learnt,
+  next-child-reads.Asked,
+  next-child-reads.Learnt,
+  page-of-reads.Asked,
+  page-of-reads.Learnt,
+  judge-partition-below t,
+  judge-partition.Post,
+)
+    (judge-children-at t)
+    judge-children.Post
+    judge-children-Inv-loop2
+    judge-children-μ-loop2
+    judge-children-Inv-loop
+    judge-children-μ-loop
+judge-children-least-requires t c κs = search needs
+
+-- src/cycle.rt:56:13
+judge-children-next-child-requires : (t : ℕ) → judge-children-lts.Need-next-child-requires (
+  directory-reads.Asked,
+  directory-reads.Learnt,
+  words-of-reads.Asked,
+  words-of-reads.Learnt,
+  shadow1-reads.Asked,
+  shadow1-reads.Learnt,
+  next-word-reads.Asked,
+  next-word-reads.Learnt,
+  table-of-reads.Asked,
+  table-of-reads.Learnt,
+  read-reads.Asked,
+  read-reads.Learnt,
+  least-reads.Asked,
+  least-reads.Learnt,
+  next-child-reads.Asked,
+  next-child-reads.Learnt,
+  page-of-reads.Asked,
+  page-of-reads.Learnt,
+  judge-partition-below t,
+  judge-partition.Post,
+)
+    (judge-children-at t)
+    judge-children.Post
+    judge-children-Inv-loop2
+    judge-children-μ-loop2
+    judge-children-Inv-loop
+    judge-children-μ-loop
+judge-children-next-child-requires t c κs = search needs
+
+-- src/cycle.rt:57:9
+judge-children-loop2-holds : (t : ℕ) → judge-children-lts.Need-loop2-holds (
+  directory-reads.Asked,
+  directory-reads.Learnt,
+  words-of-reads.Asked,
+  words-of-reads.Learnt,
+  shadow1-reads.Asked,
+  shadow1-reads.Learnt,
+  next-word-reads.Asked,
+  next-word-reads.Learnt,
+  table-of-reads.Asked,
+  table-of-reads.Learnt,
+  read-reads.Asked,
+  read-reads.Learnt,
+  least-reads.Asked,
+  least-reads.Learnt,
+  next-child-reads.Asked,
+  next-child-reads.Learnt,
+  page-of-reads.Asked,
+  page-of-reads.Learnt,
+  judge-partition-below t,
+  judge-partition.Post,
+)
+    (judge-children-at t)
+    judge-children.Post
+    judge-children-Inv-loop2
+    judge-children-μ-loop2
+    judge-children-Inv-loop
+    judge-children-μ-loop
+judge-children-loop2-holds t c =
+    let s = c .before .before .before .before .before .before .before .before .before .before .before .before .before .before .before .args in
+    let pt = c .before .before .before .before .table-of .result .now in
+    let s1 = c .before .before .table-of2 .result .now in
+    let n = c .before .least .result in
+    (refl, next-high (λ k. childWords (getD pt k 0) (getD s1 k 0)) n 0 (omega arith) (c .next-child .ensures), next-here (λ k. childWords (getD pt k 0) (getD s1 k 0)) n 0 (omega arith) (c .next-child .ensures), picked-first (λ k. childWords (getD pt k 0) (getD s1 k 0)) (λ t k. W.child (children (s .b) (s .m .now)) (own (s .b) (s .m .now)) (partitionTest (s .b) (s .m .now)) (s .left) t (pageOf (s .b) (getD pt k 0))) (pageWords (s .b)) n (child-short (s .b) (s .m .now) s1 (getD (c .before .before .before .before .before .before .before .before .before .before .before .words-of .result .now) (c .before .before .before .before .before .before .before .loop .i) 0) (c .before .before .before .before .table-of .ensures) (c .before .least .ensures)) (child-rest pt s1 (c .before .least .ensures)) (some (c .before .before .before .before .before .before .before .loop .seen)) (c .next-child .ensures))
+
+-- src/cycle.rt:59:17
+judge-children-same-length : (t : ℕ) → judge-children-lts.Need-same-length (
+  directory-reads.Asked,
+  directory-reads.Learnt,
+  words-of-reads.Asked,
+  words-of-reads.Learnt,
+  shadow1-reads.Asked,
+  shadow1-reads.Learnt,
+  next-word-reads.Asked,
+  next-word-reads.Learnt,
+  table-of-reads.Asked,
+  table-of-reads.Learnt,
+  read-reads.Asked,
+  read-reads.Learnt,
+  least-reads.Asked,
+  least-reads.Learnt,
+  next-child-reads.Asked,
+  next-child-reads.Learnt,
+  page-of-reads.Asked,
+  page-of-reads.Learnt,
+  judge-partition-below t,
+  judge-partition.Post,
+)
+    (judge-children-at t)
+    judge-children.Post
+    judge-children-Inv-loop2
+    judge-children-μ-loop2
+    judge-children-Inv-loop
+    judge-children-μ-loop
+judge-children-same-length t c = search needs
+
+-- src/cycle.rt:59:17
+judge-children-returns : (t : ℕ) → judge-children-lts.Need-returns (
+  directory-reads.Asked,
+  directory-reads.Learnt,
+  words-of-reads.Asked,
+  words-of-reads.Learnt,
+  shadow1-reads.Asked,
+  shadow1-reads.Learnt,
+  next-word-reads.Asked,
+  next-word-reads.Learnt,
+  table-of-reads.Asked,
+  table-of-reads.Learnt,
+  read-reads.Asked,
+  read-reads.Learnt,
+  least-reads.Asked,
+  least-reads.Learnt,
+  next-child-reads.Asked,
+  next-child-reads.Learnt,
+  page-of-reads.Asked,
+  page-of-reads.Learnt,
+  judge-partition-below t,
+  judge-partition.Post,
+)
+    (judge-children-at t)
+    judge-children.Post
+    judge-children-Inv-loop2
+    judge-children-μ-loop2
+    judge-children-Inv-loop
+    judge-children-μ-loop
+judge-children-returns t c =
+    let s = c .before .before .before .before .before .before .before .before .before .before .before .before .before .before .before .before .before .before .args in
+    let pt = c .before .before .before .before .before .before .before .table-of .result .now in
+    let s1 = c .before .before .before .before .before .table-of2 .result .now in
+    let n = c .before .before .before .before .least .result in
+    let e = c .before .before .before .before .before .before .before .before .before .before .before .before .before .before .words-of .ensures ∙ ap (page (s .b) (s .m .now)) (c .before .before .before .before .before .before .before .before .before .before .before .before .before .before .before .directory .ensures) in
+    let e1 = c .before .before .before .before .before .before .before .before .before .before .before .before .words-of2 .ensures ∙ ap (page (s .b) (s .m .now)) (c .before .before .before .before .before .before .before .before .before .before .before .before .before .shadow1 .ensures) in
+    rows-stop (s .b) (s .m .now) (λ v. childWords (mapping (s .b) (s .m .now) (s .d .0) v) (lent (s .b) (s .m .now) (s .d .0) v)) (λ t v. (W.child (children (s .b) (s .m .now)) (own (s .b) (s .m .now)) (partitionTest (s .b) (s .m .now)) (s .left)) t (pageOf (s .b) (mapping (s .b) (s .m .now) (s .d .0) v))) (s .d .0) (c .before .before .before .before .before .before .before .before .before .before .before .before .before .before .words-of .result .now) e (c .before .before .before .before .before .before .before .before .before .before .loop .i) (some (c .before .before .before .before .before .before .before .before .before .before .loop .seen)) (c .before .before .before .before .before .before .before .before .before .loop-test .taken) (children-row (s .b) (s .m .now) (s .d .0) (c .before .before .before .before .before .before .before .before .before .before .loop .i) e (c .before .before .before .before .before .before .before .before .before .loop-test .taken) (c .before .before .before .before .before .before .before .before .before .before .loop .inv .2 (c .before .before .before .before .before .before .before .before .before .loop-test .taken)) (c .before .before .before .before .before .before .before .table-of .ensures) e1 (c .before .before .before .before .before .before .read .ensures) (c .before .before .before .before .before .table-of2 .ensures) (W.child (children (s .b) (s .m .now)) (own (s .b) (s .m .now)) (partitionTest (s .b) (s .m .now)) (s .left)) (some (c .before .before .before .before .before .before .before .before .before .before .loop .seen)) ∙ c .before .before .loop2 .inv .3 ∙ picked-fails (λ k. childWords (getD pt k 0) (getD s1 k 0)) (λ t k. W.child (children (s .b) (s .m .now)) (own (s .b) (s .m .now)) (partitionTest (s .b) (s .m .now)) (s .left) t (pageOf (s .b) (getD pt k 0))) (pageWords (s .b)) n (child-short (s .b) (s .m .now) s1 (getD (c .before .before .before .before .before .before .before .before .before .before .before .before .before .before .words-of .result .now) (c .before .before .before .before .before .before .before .before .before .before .loop .i) 0) (c .before .before .before .before .before .before .before .table-of .ensures) (c .before .before .before .before .least .ensures)) (child-rest pt s1 (c .before .before .before .before .least .ensures)) (some (c .before .before .loop2 .seen)) (c .before .loop2-test .taken) (picked-is (λ k. childWords (getD pt k 0) (getD s1 k 0)) (λ t k. W.child (children (s .b) (s .m .now)) (own (s .b) (s .m .now)) (partitionTest (s .b) (s .m .now)) (s .left) t (pageOf (s .b) (getD pt k 0))) (c .before .before .loop2 .seen) (c .before .before .loop2 .j) (c .before .before .loop2 .inv .2 (c .before .loop2-test .taken)) ∙ child-none _ _ _ _ _ _ (c .if1 .taken))) (c .before .before .before .before .before .before .before .before .before .before .loop .inv .3 (s .d .0) e e1)
+
+-- src/cycle.rt:61:56
+judge-children-mul-page-of : (t : ℕ) → judge-children-lts.Need-mul-page-of (
+  directory-reads.Asked,
+  directory-reads.Learnt,
+  words-of-reads.Asked,
+  words-of-reads.Learnt,
+  shadow1-reads.Asked,
+  shadow1-reads.Learnt,
+  next-word-reads.Asked,
+  next-word-reads.Learnt,
+  table-of-reads.Asked,
+  table-of-reads.Learnt,
+  read-reads.Asked,
+  read-reads.Learnt,
+  least-reads.Asked,
+  least-reads.Learnt,
+  next-child-reads.Asked,
+  next-child-reads.Learnt,
+  page-of-reads.Asked,
+  page-of-reads.Learnt,
+  judge-partition-below t,
+  judge-partition.Post,
+)
+    (judge-children-at t)
+    judge-children.Post
+    judge-children-Inv-loop2
+    judge-children-μ-loop2
+    judge-children-Inv-loop
+    judge-children-μ-loop
+judge-children-mul-page-of t c = search needs
+
+-- src/cycle.rt:61:56
+judge-children-shared-slice-read-page-of :
+    (t : ℕ) → judge-children-lts.Need-shared-slice-read-page-of (
+      directory-reads.Asked,
+      directory-reads.Learnt,
+      words-of-reads.Asked,
+      words-of-reads.Learnt,
+      shadow1-reads.Asked,
+      shadow1-reads.Learnt,
+      next-word-reads.Asked,
+      next-word-reads.Learnt,
+      table-of-reads.Asked,
+      table-of-reads.Learnt,
+      read-reads.Asked,
+      read-reads.Learnt,
+      least-reads.Asked,
+      least-reads.Learnt,
+      next-child-reads.Asked,
+      next-child-reads.Learnt,
+      page-of-reads.Asked,
+      page-of-reads.Learnt,
+      judge-partition-below t,
+      judge-partition.Post,
+    )
+    (judge-children-at t)
+    judge-children.Post
+    judge-children-Inv-loop2
+    judge-children-μ-loop2
+    judge-children-Inv-loop
+    judge-children-μ-loop
+judge-children-shared-slice-read-page-of t c = search needs
+
+-- src/cycle.rt:61:45
+judge-children-page-of-requires : (t : ℕ) → judge-children-lts.Need-page-of-requires (
+  directory-reads.Asked,
+  directory-reads.Learnt,
+  words-of-reads.Asked,
+  words-of-reads.Learnt,
+  shadow1-reads.Asked,
+  shadow1-reads.Learnt,
+  next-word-reads.Asked,
+  next-word-reads.Learnt,
+  table-of-reads.Asked,
+  table-of-reads.Learnt,
+  read-reads.Asked,
+  read-reads.Learnt,
+  least-reads.Asked,
+  least-reads.Learnt,
+  next-child-reads.Asked,
+  next-child-reads.Learnt,
+  page-of-reads.Asked,
+  page-of-reads.Learnt,
+  judge-partition-below t,
+  judge-partition.Post,
+)
+    (judge-children-at t)
+    judge-children.Post
+    judge-children-Inv-loop2
+    judge-children-μ-loop2
+    judge-children-Inv-loop
+    judge-children-μ-loop
+judge-children-page-of-requires t c κs = c .before .before .before .before .before .before .before .before .before .before .before .before .before .before .before .before .before .before .before .before .pre .1
+
+-- src/cycle.rt:61:64
+judge-children-sub-judge-partition : (t : ℕ) → judge-children-lts.Need-sub-judge-partition (
+  directory-reads.Asked,
+  directory-reads.Learnt,
+  words-of-reads.Asked,
+  words-of-reads.Learnt,
+  shadow1-reads.Asked,
+  shadow1-reads.Learnt,
+  next-word-reads.Asked,
+  next-word-reads.Learnt,
+  table-of-reads.Asked,
+  table-of-reads.Learnt,
+  read-reads.Asked,
+  read-reads.Learnt,
+  least-reads.Asked,
+  least-reads.Learnt,
+  next-child-reads.Asked,
+  next-child-reads.Learnt,
+  page-of-reads.Asked,
+  page-of-reads.Learnt,
+  judge-partition-below t,
+  judge-partition.Post,
+)
+    (judge-children-at t)
+    judge-children.Post
+    judge-children-Inv-loop2
+    judge-children-μ-loop2
+    judge-children-Inv-loop
+    judge-children-μ-loop
+judge-children-sub-judge-partition t c = search needs
+
+-- src/cycle.rt:61:17
+judge-children-judge-partition-requires :
+    (t : ℕ) → judge-children-lts.Need-judge-partition-requires (
+      directory-reads.Asked,
+      directory-reads.Learnt,
+      words-of-reads.Asked,
+      words-of-reads.Learnt,
+      shadow1-reads.Asked,
+      shadow1-reads.Learnt,
+      next-word-reads.Asked,
+      next-word-reads.Learnt,
+      table-of-reads.Asked,
+      table-of-reads.Learnt,
+      read-reads.Asked,
+      read-reads.Learnt,
+      least-reads.Asked,
+      least-reads.Learnt,
+      next-child-reads.Asked,
+      next-child-reads.Learnt,
+      page-of-reads.Asked,
+      page-of-reads.Learnt,
+      judge-partition-below t,
+      judge-partition.Post,
+    )
+    (judge-children-at t)
+    judge-children.Post
+    judge-children-Inv-loop2
+    judge-children-μ-loop2
+    judge-children-Inv-loop
+    judge-children-μ-loop
+judge-children-judge-partition-requires t c κs = (omega (arith, c .before .before .before .before .before .before .before .before .before .before .before .before .before .before .before .before .before .before .before .before .before .pre .0, c .before .before .before .if1 .left), c .before .before .before .before .before .before .before .before .before .before .before .before .before .before .before .before .before .before .before .before .before .pre .1)
+
+-- src/cycle.rt:62:17
+judge-children-same-length-2 : (t : ℕ) → judge-children-lts.Need-same-length-2 (
+  directory-reads.Asked,
+  directory-reads.Learnt,
+  words-of-reads.Asked,
+  words-of-reads.Learnt,
+  shadow1-reads.Asked,
+  shadow1-reads.Learnt,
+  next-word-reads.Asked,
+  next-word-reads.Learnt,
+  table-of-reads.Asked,
+  table-of-reads.Learnt,
+  read-reads.Asked,
+  read-reads.Learnt,
+  least-reads.Asked,
+  least-reads.Learnt,
+  next-child-reads.Asked,
+  next-child-reads.Learnt,
+  page-of-reads.Asked,
+  page-of-reads.Learnt,
+  judge-partition-below t,
+  judge-partition.Post,
+)
+    (judge-children-at t)
+    judge-children.Post
+    judge-children-Inv-loop2
+    judge-children-μ-loop2
+    judge-children-Inv-loop
+    judge-children-μ-loop
 judge-children-same-length-2 t c = search needs
 
--- src/cycle.rt:58:13
+-- src/cycle.rt:62:17
 judge-children-returns-2 : (t : ℕ) → judge-children-lts.Need-returns-2 (
-  virtual-pages-reads.Asked,
-  virtual-pages-reads.Learnt,
-  next-reads.Asked,
-  next-reads.Learnt,
-  address-of-reads.Asked,
-  address-of-reads.Learnt,
-  child-of-reads.Asked,
-  child-of-reads.Learnt,
+  directory-reads.Asked,
+  directory-reads.Learnt,
+  words-of-reads.Asked,
+  words-of-reads.Learnt,
+  shadow1-reads.Asked,
+  shadow1-reads.Learnt,
+  next-word-reads.Asked,
+  next-word-reads.Learnt,
+  table-of-reads.Asked,
+  table-of-reads.Learnt,
+  read-reads.Asked,
+  read-reads.Learnt,
+  least-reads.Asked,
+  least-reads.Learnt,
+  next-child-reads.Asked,
+  next-child-reads.Learnt,
+  page-of-reads.Asked,
+  page-of-reads.Learnt,
   judge-partition-below t,
   judge-partition.Post,
-) (judge-children-at t) judge-children.Post judge-children-Inv-loop judge-children-μ-loop
-judge-children-returns-2 t c = walk-failed (W.child (children (c .before .before .before .before .before .before .before .before .before .before .before .before .before .before .args .b) (c .before .before .before .before .before .before .before .before .before .before .before .before .before .before .args .m .now)) (own (c .before .before .before .before .before .before .before .before .before .before .before .before .before .before .args .b) (c .before .before .before .before .before .before .before .before .before .before .before .before .before .before .args .m .now)) (partitionTest (c .before .before .before .before .before .before .before .before .before .before .before .before .before .before .args .b) (c .before .before .before .before .before .before .before .before .before .before .before .before .before .before .args .m .now)) (c .before .before .before .before .before .before .before .before .before .before .before .before .before .before .args .left)) (childOn (c .before .before .before .before .before .before .before .before .before .before .before .before .before .before .args .b) (c .before .before .before .before .before .before .before .before .before .before .before .before .before .before .args .m .now) (c .before .before .before .before .before .before .before .before .before .before .before .before .before .before .args .d .0)) (at (c .before .before .before .before .before .before .before .before .before .before .before .before .before .before .args .b) (c .before .before .before .before .before .before .before .before .before .before .before .before .before .before .args .m .now) (c .before .before .before .before .before .before .before .before .before .before .before .before .before .before .args .d .0) (childAt (c .before .before .before .before .before .before .before .before .before .before .before .before .before .before .args .b) (c .before .before .before .before .before .before .before .before .before .before .before .before .before .before .args .m .now) (c .before .before .before .before .before .before .before .before .before .before .before .before .before .before .args .d .0))) (virtualPages (c .before .before .before .before .before .before .before .before .before .before .before .before .before .before .args .b)) (c .before .before .before .before .before .before .before .before .before .loop .n) (c .before .before .before .before .before .before .before .before .before .loop .seen) (c .before .before .before .judge-partition .result) (c .before .before .before .judge-partition .last .1 .1 .0) (omega arith) (c .before .before .before .before .before .child-of .ensures ∙ ap (childOf (c .before .before .before .before .before .before .before .before .before .before .before .before .before .before .args .b) (c .before .before .before .before .before .before .before .before .before .before .before .before .before .before .args .m .now) (c .before .before .before .before .before .before .before .before .before .before .before .before .before .before .args .d .0)) (c .before .before .before .before .before .before .address-of .ensures)) (child-next _ _ _ _ _ _ (pos-of-ne-zero (c .before .before .before .before .before .before .before .if1 .left)) ∙ c .before .before .before .judge-partition .ensures) (c .if2 .taken) (c .before .before .before .before .before .before .before .before .before .loop .inv .1)
+)
+    (judge-children-at t)
+    judge-children.Post
+    judge-children-Inv-loop2
+    judge-children-μ-loop2
+    judge-children-Inv-loop
+    judge-children-μ-loop
+judge-children-returns-2 t c =
+    let s = c .before .before .before .before .before .before .before .before .before .before .before .before .before .before .before .before .before .before .before .before .before .before .before .before .before .args in
+    let pt = c .before .before .before .before .before .before .before .before .before .before .before .before .before .before .table-of .result .now in
+    let s1 = c .before .before .before .before .before .before .before .before .before .before .before .before .table-of2 .result .now in
+    let n = c .before .before .before .before .before .before .before .before .before .before .before .least .result in
+    let e = c .before .before .before .before .before .before .before .before .before .before .before .before .before .before .before .before .before .before .before .before .before .words-of .ensures ∙ ap (page (s .b) (s .m .now)) (c .before .before .before .before .before .before .before .before .before .before .before .before .before .before .before .before .before .before .before .before .before .before .directory .ensures) in
+    let e1 = c .before .before .before .before .before .before .before .before .before .before .before .before .before .before .before .before .before .before .before .words-of2 .ensures ∙ ap (page (s .b) (s .m .now)) (c .before .before .before .before .before .before .before .before .before .before .before .before .before .before .before .before .before .before .before .before .shadow1 .ensures) in
+    rows-stop (s .b) (s .m .now) (λ v. childWords (mapping (s .b) (s .m .now) (s .d .0) v) (lent (s .b) (s .m .now) (s .d .0) v)) (λ t v. (W.child (children (s .b) (s .m .now)) (own (s .b) (s .m .now)) (partitionTest (s .b) (s .m .now)) (s .left)) t (pageOf (s .b) (mapping (s .b) (s .m .now) (s .d .0) v))) (s .d .0) (c .before .before .before .before .before .before .before .before .before .before .before .before .before .before .before .before .before .before .before .before .before .words-of .result .now) e (c .before .before .before .before .before .before .before .before .before .before .before .before .before .before .before .before .before .loop .i) (some (c .before .before .before .before .before .before .before .before .before .before .before .before .before .before .before .before .before .loop .seen)) (c .before .before .before .before .before .before .before .before .before .before .before .before .before .before .before .before .loop-test .taken) (children-row (s .b) (s .m .now) (s .d .0) (c .before .before .before .before .before .before .before .before .before .before .before .before .before .before .before .before .before .loop .i) e (c .before .before .before .before .before .before .before .before .before .before .before .before .before .before .before .before .loop-test .taken) (c .before .before .before .before .before .before .before .before .before .before .before .before .before .before .before .before .before .loop .inv .2 (c .before .before .before .before .before .before .before .before .before .before .before .before .before .before .before .before .loop-test .taken)) (c .before .before .before .before .before .before .before .before .before .before .before .before .before .before .table-of .ensures) e1 (c .before .before .before .before .before .before .before .before .before .before .before .before .before .read .ensures) (c .before .before .before .before .before .before .before .before .before .before .before .before .table-of2 .ensures) (W.child (children (s .b) (s .m .now)) (own (s .b) (s .m .now)) (partitionTest (s .b) (s .m .now)) (s .left)) (some (c .before .before .before .before .before .before .before .before .before .before .before .before .before .before .before .before .before .loop .seen)) ∙ c .before .before .before .before .before .before .before .before .before .loop2 .inv .3 ∙ picked-fails (λ k. childWords (getD pt k 0) (getD s1 k 0)) (λ t k. W.child (children (s .b) (s .m .now)) (own (s .b) (s .m .now)) (partitionTest (s .b) (s .m .now)) (s .left) t (pageOf (s .b) (getD pt k 0))) (pageWords (s .b)) n (child-short (s .b) (s .m .now) s1 (getD (c .before .before .before .before .before .before .before .before .before .before .before .before .before .before .before .before .before .before .before .before .before .words-of .result .now) (c .before .before .before .before .before .before .before .before .before .before .before .before .before .before .before .before .before .loop .i) 0) (c .before .before .before .before .before .before .before .before .before .before .before .before .before .before .table-of .ensures) (c .before .before .before .before .before .before .before .before .before .before .before .least .ensures)) (child-rest pt s1 (c .before .before .before .before .before .before .before .before .before .before .before .least .ensures)) (some (c .before .before .before .before .before .before .before .before .before .loop2 .seen)) (c .before .before .before .before .before .before .before .before .loop2-test .taken) (picked-is (λ k. childWords (getD pt k 0) (getD s1 k 0)) (λ t k. W.child (children (s .b) (s .m .now)) (own (s .b) (s .m .now)) (partitionTest (s .b) (s .m .now)) (s .left) t (pageOf (s .b) (getD pt k 0))) (c .before .before .before .before .before .before .before .before .before .loop2 .seen) (c .before .before .before .before .before .before .before .before .before .loop2 .j) (c .before .before .before .before .before .before .before .before .before .loop2 .inv .2 (c .before .before .before .before .before .before .before .before .loop2-test .taken)) ∙ ap (λ (x : ℕ). (W.child (children (s .b) (s .m .now)) (own (s .b) (s .m .now)) (partitionTest (s .b) (s .m .now)) (s .left)) (c .before .before .before .before .before .before .before .before .before .loop2 .seen) x) (sym (c .before .before .before .before .page-of .ensures)) ∙ child-next _ _ _ _ _ _ (pos-of-ne-zero (c .before .before .before .before .before .before .before .if1 .left)) ∙ failed _ (c .before .before .before .judge-partition .result) (c .before .before .before .judge-partition .last .1 .1 .0) (c .before .before .before .judge-partition .ensures) (not-true _ (c .if2 .taken)))) (c .before .before .before .before .before .before .before .before .before .before .before .before .before .before .before .before .before .loop .inv .3 (s .d .0) e e1)
 
--- src/cycle.rt:60:51
-judge-children-add-t13 : (t : ℕ) → judge-children-lts.Need-add-t13 (
-  virtual-pages-reads.Asked,
-  virtual-pages-reads.Learnt,
-  next-reads.Asked,
-  next-reads.Learnt,
-  address-of-reads.Asked,
-  address-of-reads.Learnt,
-  child-of-reads.Asked,
-  child-of-reads.Learnt,
+-- src/cycle.rt:64:39
+judge-children-add-next-child : (t : ℕ) → judge-children-lts.Need-add-next-child (
+  directory-reads.Asked,
+  directory-reads.Learnt,
+  words-of-reads.Asked,
+  words-of-reads.Learnt,
+  shadow1-reads.Asked,
+  shadow1-reads.Learnt,
+  next-word-reads.Asked,
+  next-word-reads.Learnt,
+  table-of-reads.Asked,
+  table-of-reads.Learnt,
+  read-reads.Asked,
+  read-reads.Learnt,
+  least-reads.Asked,
+  least-reads.Learnt,
+  next-child-reads.Asked,
+  next-child-reads.Learnt,
+  page-of-reads.Asked,
+  page-of-reads.Learnt,
   judge-partition-below t,
   judge-partition.Post,
-) (judge-children-at t) judge-children.Post judge-children-Inv-loop judge-children-μ-loop
-judge-children-add-t13 t c = search needs
+)
+    (judge-children-at t)
+    judge-children.Post
+    judge-children-Inv-loop2
+    judge-children-μ-loop2
+    judge-children-Inv-loop
+    judge-children-μ-loop
+judge-children-add-next-child t c = search needs
 
--- src/cycle.rt:60:13
-judge-children-next-requires-2 : (t : ℕ) → judge-children-lts.Need-next-requires-2 (
-  virtual-pages-reads.Asked,
-  virtual-pages-reads.Learnt,
-  next-reads.Asked,
-  next-reads.Learnt,
-  address-of-reads.Asked,
-  address-of-reads.Learnt,
-  child-of-reads.Asked,
-  child-of-reads.Learnt,
+-- src/cycle.rt:64:13
+judge-children-next-child-requires-2 : (t : ℕ) → judge-children-lts.Need-next-child-requires-2 (
+  directory-reads.Asked,
+  directory-reads.Learnt,
+  words-of-reads.Asked,
+  words-of-reads.Learnt,
+  shadow1-reads.Asked,
+  shadow1-reads.Learnt,
+  next-word-reads.Asked,
+  next-word-reads.Learnt,
+  table-of-reads.Asked,
+  table-of-reads.Learnt,
+  read-reads.Asked,
+  read-reads.Learnt,
+  least-reads.Asked,
+  least-reads.Learnt,
+  next-child-reads.Asked,
+  next-child-reads.Learnt,
+  page-of-reads.Asked,
+  page-of-reads.Learnt,
   judge-partition-below t,
   judge-partition.Post,
-) (judge-children-at t) judge-children.Post judge-children-Inv-loop judge-children-μ-loop
-judge-children-next-requires-2 t c κs = search needs
+)
+    (judge-children-at t)
+    judge-children.Post
+    judge-children-Inv-loop2
+    judge-children-μ-loop2
+    judge-children-Inv-loop
+    judge-children-μ-loop
+judge-children-next-child-requires-2 t c κs = search needs
+
+-- src/cycle.rt:57:9
+judge-children-loop2-less : (t : ℕ) → judge-children-lts.Need-loop2-less (
+  directory-reads.Asked,
+  directory-reads.Learnt,
+  words-of-reads.Asked,
+  words-of-reads.Learnt,
+  shadow1-reads.Asked,
+  shadow1-reads.Learnt,
+  next-word-reads.Asked,
+  next-word-reads.Learnt,
+  table-of-reads.Asked,
+  table-of-reads.Learnt,
+  read-reads.Asked,
+  read-reads.Learnt,
+  least-reads.Asked,
+  least-reads.Learnt,
+  next-child-reads.Asked,
+  next-child-reads.Learnt,
+  page-of-reads.Asked,
+  page-of-reads.Learnt,
+  judge-partition-below t,
+  judge-partition.Post,
+)
+    (judge-children-at t)
+    judge-children.Post
+    judge-children-Inv-loop2
+    judge-children-μ-loop2
+    judge-children-Inv-loop
+    judge-children-μ-loop
+judge-children-loop2-less t c =
+    let s = c .before .before .before .before .before .before .before .before .before .before .before .before .before .before .before .before .before .before .before .before .before .before .before .before .before .before .args in
+    let pt = c .before .before .before .before .before .before .before .before .before .before .before .before .before .before .before .table-of .result .now in
+    let s1 = c .before .before .before .before .before .before .before .before .before .before .before .before .before .table-of2 .result .now in
+    let n = c .before .before .before .before .before .before .before .before .before .before .before .before .least .result in
+    omega (arith, c .before .before .before .before .before .before .before .before .before .loop2-test .taken, next-low (λ k. childWords (getD pt k 0) (getD s1 k 0)) n (c .before .before .before .before .before .before .before .before .before .before .loop2 .j + 1) (c .next-child2 .ensures))
+
+-- src/cycle.rt:57:9
+judge-children-loop2-again : (t : ℕ) → judge-children-lts.Need-loop2-again (
+  directory-reads.Asked,
+  directory-reads.Learnt,
+  words-of-reads.Asked,
+  words-of-reads.Learnt,
+  shadow1-reads.Asked,
+  shadow1-reads.Learnt,
+  next-word-reads.Asked,
+  next-word-reads.Learnt,
+  table-of-reads.Asked,
+  table-of-reads.Learnt,
+  read-reads.Asked,
+  read-reads.Learnt,
+  least-reads.Asked,
+  least-reads.Learnt,
+  next-child-reads.Asked,
+  next-child-reads.Learnt,
+  page-of-reads.Asked,
+  page-of-reads.Learnt,
+  judge-partition-below t,
+  judge-partition.Post,
+)
+    (judge-children-at t)
+    judge-children.Post
+    judge-children-Inv-loop2
+    judge-children-μ-loop2
+    judge-children-Inv-loop
+    judge-children-μ-loop
+judge-children-loop2-again t c =
+    let s = c .before .before .before .before .before .before .before .before .before .before .before .before .before .before .before .before .before .before .before .before .before .before .before .before .before .before .args in
+    let pt = c .before .before .before .before .before .before .before .before .before .before .before .before .before .before .before .table-of .result .now in
+    let s1 = c .before .before .before .before .before .before .before .before .before .before .before .before .before .table-of2 .result .now in
+    let n = c .before .before .before .before .before .before .before .before .before .before .before .before .least .result in
+    (c .before .before .before .before .judge-partition .kept .1 .1 .0 ∙ c .before .before .before .before .before .before .before .before .before .before .loop2 .inv .0, next-high (λ k. childWords (getD pt k 0) (getD s1 k 0)) n (c .before .before .before .before .before .before .before .before .before .before .loop2 .j + 1) (omega (arith, c .before .before .before .before .before .before .before .before .before .loop2-test .taken)) (c .next-child2 .ensures), next-here (λ k. childWords (getD pt k 0) (getD s1 k 0)) n (c .before .before .before .before .before .before .before .before .before .before .loop2 .j + 1) (omega (arith, c .before .before .before .before .before .before .before .before .before .loop2-test .taken)) (c .next-child2 .ensures), c .before .before .before .before .before .before .before .before .before .before .loop2 .inv .3 ∙ picked-next (λ k. childWords (getD pt k 0) (getD s1 k 0)) (λ t k. W.child (children (s .b) (s .m .now)) (own (s .b) (s .m .now)) (partitionTest (s .b) (s .m .now)) (s .left) t (pageOf (s .b) (getD pt k 0))) (pageWords (s .b)) n (child-short (s .b) (s .m .now) s1 (getD (c .before .before .before .before .before .before .before .before .before .before .before .before .before .before .before .before .before .before .before .before .before .before .words-of .result .now) (c .before .before .before .before .before .before .before .before .before .before .before .before .before .before .before .before .before .before .loop .i) 0) (c .before .before .before .before .before .before .before .before .before .before .before .before .before .before .before .table-of .ensures) (c .before .before .before .before .before .before .before .before .before .before .before .before .least .ensures)) (child-rest pt s1 (c .before .before .before .before .before .before .before .before .before .before .before .before .least .ensures)) (some (c .before .before .before .before .before .before .before .before .before .before .loop2 .seen)) (some (c .before .before .before .before .judge-partition .last .1 .1 .0)) (c .before .before .before .before .before .before .before .before .before .loop2-test .taken) (sym (picked-is (λ k. childWords (getD pt k 0) (getD s1 k 0)) (λ t k. W.child (children (s .b) (s .m .now)) (own (s .b) (s .m .now)) (partitionTest (s .b) (s .m .now)) (s .left) t (pageOf (s .b) (getD pt k 0))) (c .before .before .before .before .before .before .before .before .before .before .loop2 .seen) (c .before .before .before .before .before .before .before .before .before .before .loop2 .j) (c .before .before .before .before .before .before .before .before .before .before .loop2 .inv .2 (c .before .before .before .before .before .before .before .before .before .loop2-test .taken)) ∙ ap (λ (x : ℕ). (W.child (children (s .b) (s .m .now)) (own (s .b) (s .m .now)) (partitionTest (s .b) (s .m .now)) (s .left)) (c .before .before .before .before .before .before .before .before .before .before .loop2 .seen) x) (sym (c .before .before .before .before .before .page-of .ensures)) ∙ child-next _ _ _ _ _ _ (pos-of-ne-zero (c .before .before .before .before .before .before .before .before .if1 .left)) ∙ passed _ (c .before .before .before .before .judge-partition .result) _ (c .before .before .before .before .judge-partition .ensures) (not-false _ (c .before .if2 .left)))) (c .next-child2 .ensures))
+
+-- src/cycle.rt:66:28
+judge-children-add-next-word : (t : ℕ) → judge-children-lts.Need-add-next-word (
+  directory-reads.Asked,
+  directory-reads.Learnt,
+  words-of-reads.Asked,
+  words-of-reads.Learnt,
+  shadow1-reads.Asked,
+  shadow1-reads.Learnt,
+  next-word-reads.Asked,
+  next-word-reads.Learnt,
+  table-of-reads.Asked,
+  table-of-reads.Learnt,
+  read-reads.Asked,
+  read-reads.Learnt,
+  least-reads.Asked,
+  least-reads.Learnt,
+  next-child-reads.Asked,
+  next-child-reads.Learnt,
+  page-of-reads.Asked,
+  page-of-reads.Learnt,
+  judge-partition-below t,
+  judge-partition.Post,
+)
+    (judge-children-at t)
+    judge-children.Post
+    judge-children-Inv-loop2
+    judge-children-μ-loop2
+    judge-children-Inv-loop
+    judge-children-μ-loop
+judge-children-add-next-word t c = search needs
+
+-- src/cycle.rt:66:9
+judge-children-next-word-requires-2 : (t : ℕ) → judge-children-lts.Need-next-word-requires-2 (
+  directory-reads.Asked,
+  directory-reads.Learnt,
+  words-of-reads.Asked,
+  words-of-reads.Learnt,
+  shadow1-reads.Asked,
+  shadow1-reads.Learnt,
+  next-word-reads.Asked,
+  next-word-reads.Learnt,
+  table-of-reads.Asked,
+  table-of-reads.Learnt,
+  read-reads.Asked,
+  read-reads.Learnt,
+  least-reads.Asked,
+  least-reads.Learnt,
+  next-child-reads.Asked,
+  next-child-reads.Learnt,
+  page-of-reads.Asked,
+  page-of-reads.Learnt,
+  judge-partition-below t,
+  judge-partition.Post,
+)
+    (judge-children-at t)
+    judge-children.Post
+    judge-children-Inv-loop2
+    judge-children-μ-loop2
+    judge-children-Inv-loop
+    judge-children-μ-loop
+judge-children-next-word-requires-2 t c κs = search needs
 
 -- src/cycle.rt:52:5
 judge-children-loop-less : (t : ℕ) → judge-children-lts.Need-loop-less (
-  virtual-pages-reads.Asked,
-  virtual-pages-reads.Learnt,
-  next-reads.Asked,
-  next-reads.Learnt,
-  address-of-reads.Asked,
-  address-of-reads.Learnt,
-  child-of-reads.Asked,
-  child-of-reads.Learnt,
+  directory-reads.Asked,
+  directory-reads.Learnt,
+  words-of-reads.Asked,
+  words-of-reads.Learnt,
+  shadow1-reads.Asked,
+  shadow1-reads.Learnt,
+  next-word-reads.Asked,
+  next-word-reads.Learnt,
+  table-of-reads.Asked,
+  table-of-reads.Learnt,
+  read-reads.Asked,
+  read-reads.Learnt,
+  least-reads.Asked,
+  least-reads.Learnt,
+  next-child-reads.Asked,
+  next-child-reads.Learnt,
+  page-of-reads.Asked,
+  page-of-reads.Learnt,
   judge-partition-below t,
   judge-partition.Post,
-) (judge-children-at t) judge-children.Post judge-children-Inv-loop judge-children-μ-loop
-judge-children-loop-less t c = omega (arith, c .next2 .ensures, seek-ge (at (c .before .before .before .before .before .before .before .before .before .before .before .before .before .before .before .args .b) (c .before .before .before .before .before .before .before .before .before .before .before .before .before .before .before .args .m .now) (c .before .before .before .before .before .before .before .before .before .before .before .before .before .before .before .args .d .0) (childAt (c .before .before .before .before .before .before .before .before .before .before .before .before .before .before .before .args .b) (c .before .before .before .before .before .before .before .before .before .before .before .before .before .before .before .args .m .now) (c .before .before .before .before .before .before .before .before .before .before .before .before .before .before .before .args .d .0))) (virtualPages (c .before .before .before .before .before .before .before .before .before .before .before .before .before .before .before .args .b) - (c .before .before .before .before .before .before .before .before .before .before .loop .n + 1)) (c .before .before .before .before .before .before .before .before .before .before .loop .n + 1))
+)
+    (judge-children-at t)
+    judge-children.Post
+    judge-children-Inv-loop2
+    judge-children-μ-loop2
+    judge-children-Inv-loop
+    judge-children-μ-loop
+judge-children-loop-less t c = omega (arith, c .before .before .before .before .before .before .before .before .before .loop-test .taken, next-low (used (c .before .before .before .before .before .before .before .before .before .before .before .before .before .before .words-of .result .now)) (length (c .before .before .before .before .before .before .before .before .before .before .before .before .before .before .words-of .result .now)) (c .before .before .before .before .before .before .before .before .before .before .loop .i + 1) (c .next-word2 .ensures))
 
 -- src/cycle.rt:52:5
 judge-children-loop-again : (t : ℕ) → judge-children-lts.Need-loop-again (
-  virtual-pages-reads.Asked,
-  virtual-pages-reads.Learnt,
-  next-reads.Asked,
-  next-reads.Learnt,
-  address-of-reads.Asked,
-  address-of-reads.Learnt,
-  child-of-reads.Asked,
-  child-of-reads.Learnt,
+  directory-reads.Asked,
+  directory-reads.Learnt,
+  words-of-reads.Asked,
+  words-of-reads.Learnt,
+  shadow1-reads.Asked,
+  shadow1-reads.Learnt,
+  next-word-reads.Asked,
+  next-word-reads.Learnt,
+  table-of-reads.Asked,
+  table-of-reads.Learnt,
+  read-reads.Asked,
+  read-reads.Learnt,
+  least-reads.Asked,
+  least-reads.Learnt,
+  next-child-reads.Asked,
+  next-child-reads.Learnt,
+  page-of-reads.Asked,
+  page-of-reads.Learnt,
   judge-partition-below t,
   judge-partition.Post,
-) (judge-children-at t) judge-children.Post judge-children-Inv-loop judge-children-μ-loop
-judge-children-loop-again t c = (c .before .before .before .before .judge-partition .kept .1 .1 .0 ∙ c .before .before .before .before .before .before .before .before .before .before .loop .inv .0, walk-went (W.child (children (c .before .before .before .before .before .before .before .before .before .before .before .before .before .before .before .args .b) (c .before .before .before .before .before .before .before .before .before .before .before .before .before .before .before .args .m .now)) (own (c .before .before .before .before .before .before .before .before .before .before .before .before .before .before .before .args .b) (c .before .before .before .before .before .before .before .before .before .before .before .before .before .before .before .args .m .now)) (partitionTest (c .before .before .before .before .before .before .before .before .before .before .before .before .before .before .before .args .b) (c .before .before .before .before .before .before .before .before .before .before .before .before .before .before .before .args .m .now)) (c .before .before .before .before .before .before .before .before .before .before .before .before .before .before .before .args .left)) (childOn (c .before .before .before .before .before .before .before .before .before .before .before .before .before .before .before .args .b) (c .before .before .before .before .before .before .before .before .before .before .before .before .before .before .before .args .m .now) (c .before .before .before .before .before .before .before .before .before .before .before .before .before .before .before .args .d .0)) (at (c .before .before .before .before .before .before .before .before .before .before .before .before .before .before .before .args .b) (c .before .before .before .before .before .before .before .before .before .before .before .before .before .before .before .args .m .now) (c .before .before .before .before .before .before .before .before .before .before .before .before .before .before .before .args .d .0) (childAt (c .before .before .before .before .before .before .before .before .before .before .before .before .before .before .before .args .b) (c .before .before .before .before .before .before .before .before .before .before .before .before .before .before .before .args .m .now) (c .before .before .before .before .before .before .before .before .before .before .before .before .before .before .before .args .d .0))) (virtualPages (c .before .before .before .before .before .before .before .before .before .before .before .before .before .before .before .args .b)) (c .before .before .before .before .before .before .before .before .before .before .loop .n) (c .before .before .before .before .before .before .before .before .before .before .loop .seen) (c .before .before .before .before .judge-partition .result) (c .before .before .before .before .judge-partition .last .1 .1 .0) (omega arith) (c .before .before .before .before .before .before .child-of .ensures ∙ ap (childOf (c .before .before .before .before .before .before .before .before .before .before .before .before .before .before .before .args .b) (c .before .before .before .before .before .before .before .before .before .before .before .before .before .before .before .args .m .now) (c .before .before .before .before .before .before .before .before .before .before .before .before .before .before .before .args .d .0)) (c .before .before .before .before .before .before .before .address-of .ensures)) (child-next _ _ _ _ _ _ (pos-of-ne-zero (c .before .before .before .before .before .before .before .before .if1 .left)) ∙ c .before .before .before .before .judge-partition .ensures) (c .before .if2 .left) (c .next2 .ensures) (c .before .before .before .before .before .before .before .before .before .before .loop .inv .1))
+)
+    (judge-children-at t)
+    judge-children.Post
+    judge-children-Inv-loop2
+    judge-children-μ-loop2
+    judge-children-Inv-loop
+    judge-children-μ-loop
+judge-children-loop-again t c =
+    let s = c .before .before .before .before .before .before .before .before .before .before .before .before .before .before .before .before .before .before .args in
+    let pt = c .before .before .before .before .before .before .before .table-of .result .now in
+    let s1 = c .before .before .before .before .before .table-of2 .result .now in
+    let n = c .before .before .before .before .least .result in
+    let dir = c .before .before .before .before .before .before .before .before .before .before .before .before .before .before .words-of .result .now in
+    (c .before .before .loop2 .inv .0 ∙ c .before .before .before .before .before .before .before .before .before .before .loop .inv .0, next-high (used dir) (length dir) (c .before .before .before .before .before .before .before .before .before .before .loop .i + 1) (omega (arith, c .before .before .before .before .before .before .before .before .before .loop-test .taken)) (c .next-word2 .ensures), next-here (used dir) (length dir) (c .before .before .before .before .before .before .before .before .before .before .loop .i + 1) (omega (arith, c .before .before .before .before .before .before .before .before .before .loop-test .taken)) (c .next-word2 .ensures), λ d e e1. rows-next (s .b) (s .m .now) (childStep (s .b) (s .m .now) d (W.child (children (s .b) (s .m .now)) (own (s .b) (s .m .now)) (partitionTest (s .b) (s .m .now)) (s .left))) d dir e (some (c .before .before .before .before .before .before .before .before .before .before .loop .seen)) (some (c .before .before .loop2 .seen)) (c .before .before .before .before .before .before .before .before .before .loop-test .taken) (sym (children-row (s .b) (s .m .now) d (c .before .before .before .before .before .before .before .before .before .before .loop .i) e (c .before .before .before .before .before .before .before .before .before .loop-test .taken) (c .before .before .before .before .before .before .before .before .before .before .loop .inv .2 (c .before .before .before .before .before .before .before .before .before .loop-test .taken)) (c .before .before .before .before .before .before .before .table-of .ensures) e1 (c .before .before .before .before .before .before .read .ensures) (c .before .before .before .before .before .table-of2 .ensures) (W.child (children (s .b) (s .m .now)) (own (s .b) (s .m .now)) (partitionTest (s .b) (s .m .now)) (s .left)) (some (c .before .before .before .before .before .before .before .before .before .before .loop .seen)) ∙ c .before .before .loop2 .inv .3 ∙ picked-end (λ k. childWords (getD pt k 0) (getD s1 k 0)) (λ t k. W.child (children (s .b) (s .m .now)) (own (s .b) (s .m .now)) (partitionTest (s .b) (s .m .now)) (s .left) t (pageOf (s .b) (getD pt k 0))) (pageWords (s .b)) n (child-short (s .b) (s .m .now) s1 (getD (c .before .before .before .before .before .before .before .before .before .before .before .before .before .before .words-of .result .now) (c .before .before .before .before .before .before .before .before .before .before .loop .i) 0) (c .before .before .before .before .before .before .before .table-of .ensures) (c .before .before .before .before .least .ensures)) (child-rest pt s1 (c .before .before .before .before .least .ensures)) (some (c .before .before .loop2 .seen)) (c .before .loop2-test .left))) (c .next-word2 .ensures) (c .before .before .before .before .before .before .before .before .before .before .loop .inv .3 d e e1))
 
--- src/cycle.rt:40:1
+-- src/cycle.rt:41:1
 judge-children-same-length-3 : (t : ℕ) → judge-children-lts.Need-same-length-3 (
-  virtual-pages-reads.Asked,
-  virtual-pages-reads.Learnt,
-  next-reads.Asked,
-  next-reads.Learnt,
-  address-of-reads.Asked,
-  address-of-reads.Learnt,
-  child-of-reads.Asked,
-  child-of-reads.Learnt,
+  directory-reads.Asked,
+  directory-reads.Learnt,
+  words-of-reads.Asked,
+  words-of-reads.Learnt,
+  shadow1-reads.Asked,
+  shadow1-reads.Learnt,
+  next-word-reads.Asked,
+  next-word-reads.Learnt,
+  table-of-reads.Asked,
+  table-of-reads.Learnt,
+  read-reads.Asked,
+  read-reads.Learnt,
+  least-reads.Asked,
+  least-reads.Learnt,
+  next-child-reads.Asked,
+  next-child-reads.Learnt,
+  page-of-reads.Asked,
+  page-of-reads.Learnt,
   judge-partition-below t,
   judge-partition.Post,
-) (judge-children-at t) judge-children.Post judge-children-Inv-loop judge-children-μ-loop
+)
+    (judge-children-at t)
+    judge-children.Post
+    judge-children-Inv-loop2
+    judge-children-μ-loop2
+    judge-children-Inv-loop
+    judge-children-μ-loop
 judge-children-same-length-3 t c = search needs
 
--- src/cycle.rt:40:1
+-- src/cycle.rt:41:1
 judge-children-returns-3 : (t : ℕ) → judge-children-lts.Need-returns-3 (
-  virtual-pages-reads.Asked,
-  virtual-pages-reads.Learnt,
-  next-reads.Asked,
-  next-reads.Learnt,
-  address-of-reads.Asked,
-  address-of-reads.Learnt,
-  child-of-reads.Asked,
-  child-of-reads.Learnt,
+  directory-reads.Asked,
+  directory-reads.Learnt,
+  words-of-reads.Asked,
+  words-of-reads.Learnt,
+  shadow1-reads.Asked,
+  shadow1-reads.Learnt,
+  next-word-reads.Asked,
+  next-word-reads.Learnt,
+  table-of-reads.Asked,
+  table-of-reads.Learnt,
+  read-reads.Asked,
+  read-reads.Learnt,
+  least-reads.Asked,
+  least-reads.Learnt,
+  next-child-reads.Asked,
+  next-child-reads.Learnt,
+  page-of-reads.Asked,
+  page-of-reads.Learnt,
   judge-partition-below t,
   judge-partition.Post,
-) (judge-children-at t) judge-children.Post judge-children-Inv-loop judge-children-μ-loop
-judge-children-returns-3 t c = walk-end (W.child (children (c .before .before .before .before .before .before .args .b) (c .before .before .before .before .before .before .args .m .now)) (own (c .before .before .before .before .before .before .args .b) (c .before .before .before .before .before .before .args .m .now)) (partitionTest (c .before .before .before .before .before .before .args .b) (c .before .before .before .before .before .before .args .m .now)) (c .before .before .before .before .before .before .args .left)) (childOn (c .before .before .before .before .before .before .args .b) (c .before .before .before .before .before .before .args .m .now) (c .before .before .before .before .before .before .args .d .0)) (at (c .before .before .before .before .before .before .args .b) (c .before .before .before .before .before .before .args .m .now) (c .before .before .before .before .before .before .args .d .0) (childAt (c .before .before .before .before .before .before .args .b) (c .before .before .before .before .before .before .args .m .now) (c .before .before .before .before .before .before .args .d .0))) (virtualPages (c .before .before .before .before .before .before .args .b)) (c .before .loop .n) (c .before .loop .seen) (omega arith) (c .before .loop .inv .1)
+)
+    (judge-children-at t)
+    judge-children.Post
+    judge-children-Inv-loop2
+    judge-children-μ-loop2
+    judge-children-Inv-loop
+    judge-children-μ-loop
+judge-children-returns-3 t c =
+    let s = c .before .before .before .before .before .before .before .before .before .args in
+    let e = c .before .before .before .before .before .words-of .ensures ∙ ap (page (s .b) (s .m .now)) (c .before .before .before .before .before .before .directory .ensures) in
+    let e1 = c .before .before .before .words-of2 .ensures ∙ ap (page (s .b) (s .m .now)) (c .before .before .before .before .shadow1 .ensures) in
+    rows-end (s .b) (s .m .now) (childStep (s .b) (s .m .now) (s .d .0) (W.child (children (s .b) (s .m .now)) (own (s .b) (s .m .now)) (partitionTest (s .b) (s .m .now)) (s .left))) (s .d .0) (c .before .before .before .before .before .words-of .result .now) e (some (c .before .loop .seen)) (c .loop-test .left) (c .before .loop .inv .3 (s .d .0) e e1)
 
--- src/cycle.rt:30:9
+-- src/cycle.rt:31:9
 judge-partition-partition-test-requires :
     (t : ℕ) → judge-partition-lts.Need-partition-test-requires (
       partition-test-reads.Asked,
@@ -348,7 +1178,7 @@ judge-partition-partition-test-requires :
     ) (judge-partition-at t) judge-partition.Post
 judge-partition-partition-test-requires t c κs = search needs
 
--- src/cycle.rt:31:9
+-- src/cycle.rt:32:9
 judge-partition-returns : (t : ℕ) → judge-partition-lts.Need-returns (
   partition-test-reads.Asked,
   partition-test-reads.Learnt,
@@ -359,7 +1189,7 @@ judge-partition-returns : (t : ℕ) → judge-partition-lts.Need-returns (
 ) (judge-partition-at t) judge-partition.Post
 judge-partition-returns t c = judge-bad _ _ _ _ _ _ (no (c .before .partition-test .ensures) (c .if1 .taken))
 
--- src/cycle.rt:33:9
+-- src/cycle.rt:34:9
 judge-partition-mark-own-requires : (t : ℕ) → judge-partition-lts.Need-mark-own-requires (
   partition-test-reads.Asked,
   partition-test-reads.Learnt,
@@ -370,7 +1200,7 @@ judge-partition-mark-own-requires : (t : ℕ) → judge-partition-lts.Need-mark-
 ) (judge-partition-at t) judge-partition.Post
 judge-partition-mark-own-requires t c κs = (c .before .before .before .before .before .pre .1, partition-few (c .before .before .before .before .before .args .b) (c .before .before .before .before .before .args .m .now) (c .before .before .before .before .before .args .d .0) (yes (c .before .before .partition-test .ensures) (c .before .if1 .left)))
 
--- src/cycle.rt:34:9
+-- src/cycle.rt:35:9
 judge-partition-same-length : (t : ℕ) → judge-partition-lts.Need-same-length (
   partition-test-reads.Asked,
   partition-test-reads.Learnt,
@@ -381,7 +1211,7 @@ judge-partition-same-length : (t : ℕ) → judge-partition-lts.Need-same-length
 ) (judge-partition-at t) judge-partition.Post
 judge-partition-same-length t c = search needs
 
--- src/cycle.rt:34:9
+-- src/cycle.rt:35:9
 judge-partition-returns-2 : (t : ℕ) → judge-partition-lts.Need-returns-2 (
   partition-test-reads.Asked,
   partition-test-reads.Learnt,
@@ -392,7 +1222,7 @@ judge-partition-returns-2 : (t : ℕ) → judge-partition-lts.Need-returns-2 (
 ) (judge-partition-at t) judge-partition.Post
 judge-partition-returns-2 t c = judge-stop _ _ _ _ _ _ (yes (c .before .before .before .before .before .before .partition-test .ensures) (c .before .before .before .before .before .if1 .left)) (failed _ (c .before .before .before .mark-own .result) (c .before .before .before .mark-own .last .1 .1 .0) (c .before .before .before .mark-own .ensures) (not-true _ (c .if2 .taken)))
 
--- src/cycle.rt:36:5
+-- src/cycle.rt:37:5
 judge-partition-judge-children-requires :
     (t : ℕ) → judge-partition-lts.Need-judge-children-requires (
       partition-test-reads.Asked,
@@ -404,7 +1234,7 @@ judge-partition-judge-children-requires :
     ) (judge-partition-at t) judge-partition.Post
 judge-partition-judge-children-requires t c κs = search needs
 
--- src/cycle.rt:20:1
+-- src/cycle.rt:23:1
 judge-partition-same-length-2 : (t : ℕ) → judge-partition-lts.Need-same-length-2 (
   partition-test-reads.Asked,
   partition-test-reads.Learnt,
@@ -415,7 +1245,7 @@ judge-partition-same-length-2 : (t : ℕ) → judge-partition-lts.Need-same-leng
 ) (judge-partition-at t) judge-partition.Post
 judge-partition-same-length-2 t c = search needs
 
--- src/cycle.rt:20:1
+-- src/cycle.rt:23:1
 judge-partition-returns-3 : (t : ℕ) → judge-partition-lts.Need-returns-3 (
   partition-test-reads.Asked,
   partition-test-reads.Learnt,
@@ -429,34 +1259,62 @@ judge-partition-returns-3 t c = judge-go _ _ _ _ _ _ (c .before .before .before 
 pub +judge-children+judge-partition-spec : {M : Type 1} → statement M
 +judge-children+judge-partition-spec =
     close μ-judge-children μ-judge-partition (λ t. judge-children-lts.spec (
-      virtual-pages-reads.Asked,
-      virtual-pages-reads.Learnt,
-      next-reads.Asked,
-      next-reads.Learnt,
-      address-of-reads.Asked,
-      address-of-reads.Learnt,
-      child-of-reads.Asked,
-      child-of-reads.Learnt,
+      directory-reads.Asked,
+      directory-reads.Learnt,
+      words-of-reads.Asked,
+      words-of-reads.Learnt,
+      shadow1-reads.Asked,
+      shadow1-reads.Learnt,
+      next-word-reads.Asked,
+      next-word-reads.Learnt,
+      table-of-reads.Asked,
+      table-of-reads.Learnt,
+      read-reads.Asked,
+      read-reads.Learnt,
+      least-reads.Asked,
+      least-reads.Learnt,
+      next-child-reads.Asked,
+      next-child-reads.Learnt,
+      page-of-reads.Asked,
+      page-of-reads.Learnt,
       judge-partition-below t,
       judge-partition.Post,
     )
     (judge-children-at t)
     judge-children.Post
+    judge-children-Inv-loop2
+    judge-children-μ-loop2
     judge-children-Inv-loop
     judge-children-μ-loop
-    (judge-children-virtual-pages-requires t)
-    (judge-children-next-requires t)
+    (judge-children-directory-requires t)
+    (judge-children-words-of-requires t)
+    (judge-children-shadow1-requires t)
+    (judge-children-words-of-requires-2 t)
+    (judge-children-next-word-requires t)
     (judge-children-loop-holds t)
+    (judge-children-mul-table-of t)
+    (judge-children-shared-slice-read-table-of t)
+    (judge-children-table-of-requires t)
+    (judge-children-read-requires t)
+    (judge-children-table-of-requires-2 t)
+    (judge-children-least-requires t)
+    (judge-children-next-child-requires t)
+    (judge-children-loop2-holds t)
     (judge-children-same-length t)
     (judge-children-returns t)
-    (judge-children-address-of-requires t)
-    (judge-children-child-of-requires t)
+    (judge-children-mul-page-of t)
+    (judge-children-shared-slice-read-page-of t)
+    (judge-children-page-of-requires t)
     (judge-children-sub-judge-partition t)
     (judge-children-judge-partition-requires t)
     (judge-children-same-length-2 t)
     (judge-children-returns-2 t)
-    (judge-children-add-t13 t)
-    (judge-children-next-requires-2 t)
+    (judge-children-add-next-child t)
+    (judge-children-next-child-requires-2 t)
+    (judge-children-loop2-less t)
+    (judge-children-loop2-again t)
+    (judge-children-add-next-word t)
+    (judge-children-next-word-requires-2 t)
     (judge-children-loop-less t)
     (judge-children-loop-again t)
     (judge-children-same-length-3 t)

@@ -5,11 +5,6 @@ use Rattle.judge.proofs.Laws.Marks.{kernel-five, kernel-listed}
 use borrow.Author.Needs.{needs}
 use Rattle.judge.proofs.marks.kernel_page.Statement.{statement}
 use Rattle.judge.proofs.marks.kernel_page.Tie as tie
-use Rattle.judge.proofs.marks.kernel_page.Reads as reads
-use Rattle.judge.proofs.marks.kernel_page.Lts as lts
-use Rattle.judge.proofs.pairs.list_pair.Reads as list-pair-reads
-use Rattle.pages.proofs.page_of.Reads as page-of-reads
-use Rattle.pages.proofs.named.Reads as named-reads
 
 -- src/marks.rt:49:9
 returns : tie.Need-returns

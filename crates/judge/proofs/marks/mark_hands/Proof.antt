@@ -1,92 +1,128 @@
-use Prim.Native.Nat.{ℕ, _+_, _-_}
-use mathlib.Core.Path.{_≡_, refl, ap, _∙_}
+use Prim.Native.Nat.{ℕ, _+_, _-_, _≤_, _<_}
+use mathlib.Core.Path.{_≡_, refl, sym, ap, _∙_}
 use native.Mathlib.Omega.{arith}
-use lib.ListN.{length}
-use Rattle.memory.specs.Partition.{mapping, inHand}
+use lib.ListN.{length, getD}
+use Rattle.walk.specs.Finite.{from}
+use Rattle.memory.specs.Geometry.{pageWords}
+use Rattle.memory.specs.Words.{page}
+use Rattle.memory.specs.Partition.{directory, shadow1}
+use Rattle.judge.specs.Rows.{used}
+use Rattle.judge.proofs.Laws.Search.{next-low, next-high, next-here}
+use mathlib.Core.Bool.{true}
+use mathlib.Core.List.{List}
+use mathlib.Core.Path.{subst}
+use mathlib.Core.Option.{some}
+use borrow.Author.Tests.{not-true, not-false}
+use Rattle.walk.specs.Marks.{marks, mark, passed, failed}
 use Rattle.memory.specs.Geometry.{pageOf}
-use Rattle.walk.specs.Marks.{mark, marks}
-use Rattle.walk.specs.Finite.{image}
+use Rattle.memory.specs.Partition.{mapping, inHand}
 use Rattle.soundness.specs.Test.{handPages}
-use Rattle.judge.specs.Search.{virtualPages, at}
-use Rattle.judge.proofs.Laws.Search.{found, seek-ge}
-use Rattle.judge.proofs.Laws.Marks.{pageOn, hands-start, walk-went, walk-failed, walk-end}
+use Rattle.judge.specs.Run.{run}
+use Rattle.judge.proofs.Laws.Rows.{rowStep, rows-first, rows-next, rows-end, table-short}
+use Rattle.judge.proofs.Laws.Sweeps.{handAt, hands-run, hands-row}
+use Rattle.judge.proofs.Laws.Walks.{rows-stop}
 use borrow.Author.Needs.{needs}
 use Rattle.judge.proofs.marks.mark_hands.Statement.{statement}
 use Rattle.judge.proofs.marks.mark_hands.Tie as tie
-use Rattle.judge.proofs.marks.mark_hands.Reads as reads
-use Rattle.judge.proofs.marks.mark_hands.Lts as lts
-use Rattle.judge.proofs.marks.mark_page.Reads as mark-page-reads
-use Rattle.judge.proofs.search.address_of.Reads as address-of-reads
-use Rattle.judge.proofs.search.next.Reads as next-reads
-use Rattle.judge.proofs.search.virtual_pages.Reads as virtual-pages-reads
-use Rattle.pages.proofs.page_of.Reads as page-of-reads
-use Rattle.pages.proofs.mapping.Reads as mapping-reads
 
 abbrev Inv-loop : tie.InvT-loop
-Inv-loop b m seen₀ d end n₀ seen n = (length seen ≡ length seen₀) × (marks seen₀ (handPages b m (d .0)) ≡ marks seen (image (pageOn b m (d .0)) (found (at b m (d .0) (inHand b m (d .0))) (virtualPages b) n)))
+Inv-loop b m seen₀ dir sh1 i₀ seen i = (length seen ≡ length seen₀) × (i ≤ length dir) × (i < length dir → used dir i ≡ true) × ((d : ℕ) → dir ≡ page b m (directory b m d) → sh1 ≡ page b m (shadow1 b m d) → marks seen₀ (handPages b m d) ≡ run (rowStep b m (handAt b m d) d) (some seen) (from (pageWords b - i) i))
 
 abbrev μ-loop : tie.MeasureT-loop
-μ-loop b m seen₀ d end n₀ seen n = virtualPages b - n
+μ-loop b m seen₀ dir sh1 i₀ seen i = length dir - i
 
--- src/marks.rt:79:9
-virtual-pages-requires : tie.Need-virtual-pages-requires Inv-loop μ-loop
-virtual-pages-requires c κs = search needs
+-- src/marks.rt:122:30
+directory-requires : tie.Need-directory-requires Inv-loop μ-loop
+directory-requires c κs = search needs
 
--- src/marks.rt:80:17
-next-requires : tie.Need-next-requires Inv-loop μ-loop
-next-requires c κs = search needs
+-- src/marks.rt:122:9
+words-of-requires : tie.Need-words-of-requires Inv-loop μ-loop
+words-of-requires c κs = search needs
 
--- src/marks.rt:81:5
+-- src/marks.rt:123:30
+shadow1-requires : tie.Need-shadow1-requires Inv-loop μ-loop
+shadow1-requires c κs = search needs
+
+-- src/marks.rt:123:9
+words-of-requires-2 : tie.Need-words-of-requires-2 Inv-loop μ-loop
+words-of-requires-2 c κs = search needs
+
+-- src/marks.rt:124:9
+next-word-requires : tie.Need-next-word-requires Inv-loop μ-loop
+next-word-requires c κs = search needs
+
+-- src/marks.rt:125:5
 loop-holds : tie.Need-loop-holds Inv-loop μ-loop
-loop-holds c = (refl, ap (marks (c .before .before .before .before .args .seen .now)) (hands-start (c .before .before .before .before .args .b) (c .before .before .before .before .args .m .now) (c .before .before .before .before .args .d .0) (c .next .ensures)))
+loop-holds c =
+    let s = c .before .before .before .before .before .before .before .args in
+    let dir = c .before .before .before .words-of .result .now in
+    (refl, next-high (used dir) (length dir) 0 (omega arith) (c .next-word .ensures), next-here (used dir) (length dir) 0 (omega arith) (c .next-word .ensures), λ d e e1. rows-first (s .b) (s .m .now) (handAt (s .b) (s .m .now) d) d dir e (some (s .seen .now)) (hands-run (s .b) (s .m .now) d (s .seen .now)) (c .next-word .ensures))
 
--- src/marks.rt:82:34
-address-of-requires : tie.Need-address-of-requires Inv-loop μ-loop
-address-of-requires c κs = search needs
+-- src/marks.rt:126:33
+mul-table-of : tie.Need-mul-table-of Inv-loop μ-loop
+mul-table-of c = search needs
 
--- src/marks.rt:82:13
-mapping-requires : tie.Need-mapping-requires Inv-loop μ-loop
-mapping-requires c κs = search needs
+-- src/marks.rt:126:33
+shared-slice-read-table-of : tie.Need-shared-slice-read-table-of Inv-loop μ-loop
+shared-slice-read-table-of c = search needs
 
--- src/marks.rt:83:29
-page-of-requires : tie.Need-page-of-requires Inv-loop μ-loop
-page-of-requires c κs = search needs
+-- src/marks.rt:126:13
+table-of-requires : tie.Need-table-of-requires Inv-loop μ-loop
+table-of-requires c κs = search needs
 
--- src/marks.rt:83:13
-mark-page-requires : tie.Need-mark-page-requires Inv-loop μ-loop
-mark-page-requires c κs = search needs
+-- src/marks.rt:127:33
+read-requires : tie.Need-read-requires Inv-loop μ-loop
+read-requires c κs = search needs
 
--- src/marks.rt:84:13
+-- src/marks.rt:127:13
+table-of-requires-2 : tie.Need-table-of-requires-2 Inv-loop μ-loop
+table-of-requires-2 c κs = search needs
+
+-- src/marks.rt:128:13
+mark-row-requires : tie.Need-mark-row-requires Inv-loop μ-loop
+mark-row-requires c κs = (c .before .before .before .before .before .before .before .before .before .before .before .before .before .before .pre, subst (λ (t : List ℕ). length t ≤ pageWords (c .before .before .before .before .before .before .before .before .before .before .before .before .before .before .args .b)) (sym (c .before .before .before .table-of .ensures)) (table-short (c .before .before .before .before .before .before .before .before .before .before .before .before .before .before .args .b) (c .before .before .before .before .before .before .before .before .before .before .before .before .before .before .args .m .now) (getD (c .before .before .before .before .before .before .before .before .before .before .words-of .result .now) (c .before .before .before .before .before .before .loop .i) 0)))
+
+-- src/marks.rt:129:13
 same-length : tie.Need-same-length Inv-loop μ-loop
 same-length c = search needs
 
--- src/marks.rt:84:13
+-- src/marks.rt:129:13
 returns : tie.Need-returns Inv-loop μ-loop
-returns c = walk-failed mark (pageOn (c .before .before .before .before .before .before .before .before .before .before .before .before .before .before .args .b) (c .before .before .before .before .before .before .before .before .before .before .before .before .before .before .args .m .now) (c .before .before .before .before .before .before .before .before .before .before .before .before .before .before .args .d .0)) (at (c .before .before .before .before .before .before .before .before .before .before .before .before .before .before .args .b) (c .before .before .before .before .before .before .before .before .before .before .before .before .before .before .args .m .now) (c .before .before .before .before .before .before .before .before .before .before .before .before .before .before .args .d .0) (inHand (c .before .before .before .before .before .before .before .before .before .before .before .before .before .before .args .b) (c .before .before .before .before .before .before .before .before .before .before .before .before .before .before .args .m .now) (c .before .before .before .before .before .before .before .before .before .before .before .before .before .before .args .d .0))) (virtualPages (c .before .before .before .before .before .before .before .before .before .before .before .before .before .before .args .b)) (c .before .before .before .before .before .before .before .before .before .loop .n) (c .before .before .before .before .before .before .before .before .before .loop .seen) (c .before .before .before .mark-page .result) (c .before .before .before .mark-page .last .0) (omega arith) (c .before .before .before .before .page-of .ensures ∙ ap (pageOf (c .before .before .before .before .before .before .before .before .before .before .before .before .before .before .args .b)) (c .before .before .before .before .before .before .mapping .ensures ∙ ap (mapping (c .before .before .before .before .before .before .before .before .before .before .before .before .before .before .args .b) (c .before .before .before .before .before .before .before .before .before .before .before .before .before .before .args .m .now) (c .before .before .before .before .before .before .before .before .before .before .before .before .before .before .args .d .0)) (c .before .before .before .before .before .before .before .address-of .ensures))) (c .before .before .before .mark-page .ensures) (c .if1 .taken) (c .before .before .before .before .before .before .before .before .before .loop .inv .1)
+returns c =
+    let s = c .before .before .before .before .before .before .before .before .before .before .before .before .before .before .before .before .before .before .args in
+    let e = c .before .before .before .before .before .before .before .before .before .before .before .before .before .before .words-of .ensures ∙ ap (page (s .b) (s .m .now)) (c .before .before .before .before .before .before .before .before .before .before .before .before .before .before .before .directory .ensures) in
+    let e1 = c .before .before .before .before .before .before .before .before .before .before .before .before .words-of2 .ensures ∙ ap (page (s .b) (s .m .now)) (c .before .before .before .before .before .before .before .before .before .before .before .before .before .shadow1 .ensures) in
+    rows-stop (s .b) (s .m .now) (inHand (s .b) (s .m .now) (s .d .0)) (λ t v. mark t (pageOf (s .b) (mapping (s .b) (s .m .now) (s .d .0) v))) (s .d .0) (c .before .before .before .before .before .before .before .before .before .before .before .before .before .before .words-of .result .now) e (c .before .before .before .before .before .before .before .before .before .before .loop .i) (some (c .before .before .before .before .before .before .before .before .before .before .loop .seen)) (c .before .before .before .before .before .before .before .before .before .loop-test .taken) (hands-row (s .b) (s .m .now) (s .d .0) (c .before .before .before .before .before .before .before .before .before .before .loop .i) e (c .before .before .before .before .before .before .before .before .before .loop-test .taken) (c .before .before .before .before .before .before .before .before .before .before .loop .inv .2 (c .before .before .before .before .before .before .before .before .before .loop-test .taken)) (c .before .before .before .before .before .before .before .table-of .ensures) e1 (c .before .before .before .before .before .before .read .ensures) (c .before .before .before .before .before .table-of2 .ensures) (some (c .before .before .before .before .before .before .before .before .before .before .loop .seen)) ∙ failed _ (c .before .before .before .mark-row .result) (c .before .before .before .mark-row .last .1 .0) (c .before .before .before .mark-row .ensures) (not-true _ (c .if1 .taken))) (c .before .before .before .before .before .before .before .before .before .before .loop .inv .3 (s .d .0) e e1)
 
--- src/marks.rt:86:50
-add-t12 : tie.Need-add-t12 Inv-loop μ-loop
-add-t12 c = search needs
+-- src/marks.rt:131:28
+add-next-word : tie.Need-add-next-word Inv-loop μ-loop
+add-next-word c = search needs
 
--- src/marks.rt:86:13
-next-requires-2 : tie.Need-next-requires-2 Inv-loop μ-loop
-next-requires-2 c κs = search needs
+-- src/marks.rt:131:9
+next-word-requires-2 : tie.Need-next-word-requires-2 Inv-loop μ-loop
+next-word-requires-2 c κs = search needs
 
--- src/marks.rt:81:5
+-- src/marks.rt:125:5
 loop-less : tie.Need-loop-less Inv-loop μ-loop
-loop-less c = omega (arith, c .next2 .ensures, seek-ge (at (c .before .before .before .before .before .before .before .before .before .before .before .before .before .before .before .args .b) (c .before .before .before .before .before .before .before .before .before .before .before .before .before .before .before .args .m .now) (c .before .before .before .before .before .before .before .before .before .before .before .before .before .before .before .args .d .0) (inHand (c .before .before .before .before .before .before .before .before .before .before .before .before .before .before .before .args .b) (c .before .before .before .before .before .before .before .before .before .before .before .before .before .before .before .args .m .now) (c .before .before .before .before .before .before .before .before .before .before .before .before .before .before .before .args .d .0))) (virtualPages (c .before .before .before .before .before .before .before .before .before .before .before .before .before .before .before .args .b) - (c .before .before .before .before .before .before .before .before .before .before .loop .n + 1)) (c .before .before .before .before .before .before .before .before .before .before .loop .n + 1))
+loop-less c = omega (arith, c .before .before .before .before .before .before .before .before .before .before .loop-test .taken, next-low (used (c .before .before .before .before .before .before .before .before .before .before .before .before .before .before .before .words-of .result .now)) (length (c .before .before .before .before .before .before .before .before .before .before .before .before .before .before .before .words-of .result .now)) (c .before .before .before .before .before .before .before .before .before .before .before .loop .i + 1) (c .next-word2 .ensures))
 
--- src/marks.rt:81:5
+-- src/marks.rt:125:5
 loop-again : tie.Need-loop-again Inv-loop μ-loop
-loop-again c = (c .before .before .before .before .mark-page .kept .0 ∙ c .before .before .before .before .before .before .before .before .before .before .loop .inv .0, walk-went mark (pageOn (c .before .before .before .before .before .before .before .before .before .before .before .before .before .before .before .args .b) (c .before .before .before .before .before .before .before .before .before .before .before .before .before .before .before .args .m .now) (c .before .before .before .before .before .before .before .before .before .before .before .before .before .before .before .args .d .0)) (at (c .before .before .before .before .before .before .before .before .before .before .before .before .before .before .before .args .b) (c .before .before .before .before .before .before .before .before .before .before .before .before .before .before .before .args .m .now) (c .before .before .before .before .before .before .before .before .before .before .before .before .before .before .before .args .d .0) (inHand (c .before .before .before .before .before .before .before .before .before .before .before .before .before .before .before .args .b) (c .before .before .before .before .before .before .before .before .before .before .before .before .before .before .before .args .m .now) (c .before .before .before .before .before .before .before .before .before .before .before .before .before .before .before .args .d .0))) (virtualPages (c .before .before .before .before .before .before .before .before .before .before .before .before .before .before .before .args .b)) (c .before .before .before .before .before .before .before .before .before .before .loop .n) (c .before .before .before .before .before .before .before .before .before .before .loop .seen) (c .before .before .before .before .mark-page .result) (c .before .before .before .before .mark-page .last .0) (omega arith) (c .before .before .before .before .before .page-of .ensures ∙ ap (pageOf (c .before .before .before .before .before .before .before .before .before .before .before .before .before .before .before .args .b)) (c .before .before .before .before .before .before .before .mapping .ensures ∙ ap (mapping (c .before .before .before .before .before .before .before .before .before .before .before .before .before .before .before .args .b) (c .before .before .before .before .before .before .before .before .before .before .before .before .before .before .before .args .m .now) (c .before .before .before .before .before .before .before .before .before .before .before .before .before .before .before .args .d .0)) (c .before .before .before .before .before .before .before .before .address-of .ensures))) (c .before .before .before .before .mark-page .ensures) (c .before .if1 .left) (c .next2 .ensures) (c .before .before .before .before .before .before .before .before .before .before .loop .inv .1))
+loop-again c =
+    let s = c .before .before .before .before .before .before .before .before .before .before .before .before .before .before .before .before .before .before .before .args in
+    let dir = c .before .before .before .before .before .before .before .before .before .before .before .before .before .before .before .words-of .result .now in
+    (c .before .before .before .before .mark-row .kept .1 .0 ∙ c .before .before .before .before .before .before .before .before .before .before .before .loop .inv .0, next-high (used dir) (length dir) (c .before .before .before .before .before .before .before .before .before .before .before .loop .i + 1) (omega (arith, c .before .before .before .before .before .before .before .before .before .before .loop-test .taken)) (c .next-word2 .ensures), next-here (used dir) (length dir) (c .before .before .before .before .before .before .before .before .before .before .before .loop .i + 1) (omega (arith, c .before .before .before .before .before .before .before .before .before .before .loop-test .taken)) (c .next-word2 .ensures), λ d e e1. rows-next (s .b) (s .m .now) (handAt (s .b) (s .m .now) d) d dir e (some (c .before .before .before .before .before .before .before .before .before .before .before .loop .seen)) (some (c .before .before .before .before .mark-row .last .1 .0)) (c .before .before .before .before .before .before .before .before .before .before .loop-test .taken) (sym (hands-row (s .b) (s .m .now) d (c .before .before .before .before .before .before .before .before .before .before .before .loop .i) e (c .before .before .before .before .before .before .before .before .before .before .loop-test .taken) (c .before .before .before .before .before .before .before .before .before .before .before .loop .inv .2 (c .before .before .before .before .before .before .before .before .before .before .loop-test .taken)) (c .before .before .before .before .before .before .before .before .table-of .ensures) e1 (c .before .before .before .before .before .before .before .read .ensures) (c .before .before .before .before .before .before .table-of2 .ensures) (some (c .before .before .before .before .before .before .before .before .before .before .before .loop .seen)) ∙ passed _ (c .before .before .before .before .mark-row .result) _ (c .before .before .before .before .mark-row .ensures) (not-false _ (c .before .if1 .left)))) (c .next-word2 .ensures) (c .before .before .before .before .before .before .before .before .before .before .before .loop .inv .3 d e e1))
 
--- src/marks.rt:75:1
+-- src/marks.rt:118:1
 same-length-2 : tie.Need-same-length-2 Inv-loop μ-loop
 same-length-2 c = search needs
 
--- src/marks.rt:75:1
+-- src/marks.rt:118:1
 returns-2 : tie.Need-returns-2 Inv-loop μ-loop
-returns-2 c = walk-end mark (pageOn (c .before .before .before .before .before .before .args .b) (c .before .before .before .before .before .before .args .m .now) (c .before .before .before .before .before .before .args .d .0)) (at (c .before .before .before .before .before .before .args .b) (c .before .before .before .before .before .before .args .m .now) (c .before .before .before .before .before .before .args .d .0) (inHand (c .before .before .before .before .before .before .args .b) (c .before .before .before .before .before .before .args .m .now) (c .before .before .before .before .before .before .args .d .0))) (virtualPages (c .before .before .before .before .before .before .args .b)) (c .before .loop .n) (c .before .loop .seen) (omega arith) (c .before .loop .inv .1)
+returns-2 c =
+    let s = c .before .before .before .before .before .before .before .before .before .args in
+    let e = c .before .before .before .before .before .words-of .ensures ∙ ap (page (s .b) (s .m .now)) (c .before .before .before .before .before .before .directory .ensures) in
+    rows-end (s .b) (s .m .now) (handAt (s .b) (s .m .now) (s .d .0)) (s .d .0) (c .before .before .before .before .before .words-of .result .now) e (some (c .before .loop .seen)) (c .loop-test .left) (c .before .loop .inv .3 (s .d .0) e (c .before .before .before .words-of2 .ensures ∙ ap (page (s .b) (s .m .now)) (c .before .before .before .before .shadow1 .ensures)))
 
 pub mark-hands-spec : {M : Type 1} → statement M
 mark-hands-spec =
@@ -94,17 +130,22 @@ mark-hands-spec =
     (tie.spec
     Inv-loop
     μ-loop
-    virtual-pages-requires
-    next-requires
+    directory-requires
+    words-of-requires
+    shadow1-requires
+    words-of-requires-2
+    next-word-requires
     loop-holds
-    address-of-requires
-    mapping-requires
-    page-of-requires
-    mark-page-requires
+    mul-table-of
+    shared-slice-read-table-of
+    table-of-requires
+    read-requires
+    table-of-requires-2
+    mark-row-requires
     same-length
     returns
-    add-t12
-    next-requires-2
+    add-next-word
+    next-word-requires-2
     loop-less
     loop-again
     same-length-2

@@ -11,11 +11,6 @@ use Rattle.judge.proofs.Laws.Marks.{mark-went, mark-failed, mark-end}
 use borrow.Author.Needs.{needs}
 use Rattle.judge.proofs.marks.mark_kernel.Statement.{statement}
 use Rattle.judge.proofs.marks.mark_kernel.Tie as tie
-use Rattle.judge.proofs.marks.mark_kernel.Reads as reads
-use Rattle.judge.proofs.marks.mark_kernel.Lts as lts
-use Rattle.judge.proofs.marks.kernel_page.Reads as kernel-page-reads
-use Rattle.judge.proofs.marks.mark_page.Reads as mark-page-reads
-use Rattle.pages.proofs.threes.Reads as threes-reads
 
 abbrev Inv-loop : tie.InvT-loop
 Inv-loop b m seen₀ d n j₀ seen j = (length seen ≡ length seen₀) × (marks seen₀ (fivePages b m (d .0) ++ listedPages b m (d .0)) ≡ marks seen (drop j (fivePages b m (d .0) ++ listedPages b m (d .0))))

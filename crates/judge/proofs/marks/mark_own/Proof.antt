@@ -5,10 +5,6 @@ use Rattle.judge.proofs.Laws.Marks.{own-no, own-yes}
 use borrow.Author.Needs.{needs}
 use Rattle.judge.proofs.marks.mark_own.Statement.{statement}
 use Rattle.judge.proofs.marks.mark_own.Tie as tie
-use Rattle.judge.proofs.marks.mark_own.Reads as reads
-use Rattle.judge.proofs.marks.mark_own.Lts as lts
-use Rattle.judge.proofs.marks.mark_hands.Reads as mark-hands-reads
-use Rattle.judge.proofs.marks.mark_kernel.Reads as mark-kernel-reads
 
 -- src/marks.rt:97:9
 mark-kernel-requires : tie.Need-mark-kernel-requires

@@ -3,8 +3,6 @@ use Rattle.walk.specs.Marks.{mark-zero, mark-out, mark-taken, mark-is}
 use borrow.Author.Needs.{needs}
 use Rattle.judge.proofs.marks.mark_page.Statement.{statement}
 use Rattle.judge.proofs.marks.mark_page.Tie as tie
-use Rattle.judge.proofs.marks.mark_page.Reads as reads
-use Rattle.judge.proofs.marks.mark_page.Lts as lts
 
 -- src/marks.rt:28:13
 cast-i : tie.Need-cast-i

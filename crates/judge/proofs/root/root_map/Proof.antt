@@ -1,55 +1,160 @@
-use mathlib.Core.Path.{refl}
+use Rattle.judge.proofs.Laws.Rows.{asks-next, dir-short}
+use Prim.Native.Nat.{ℕ, _+_, _-_, _*_, _≤_, _<_}
+use mathlib.Core.Path.{_≡_, sym, ap, _∙_}
+use native.Mathlib.Omega.{arith}
+use mathlib.Core.Bool.{true}
+use lib.ListN.{length}
+use Rattle.walk.specs.Finite.{from, all}
+use Rattle.memory.specs.Geometry.{pageWords}
+use Rattle.memory.specs.Words.{page}
+use Rattle.memory.specs.Counts.{tabled}
+use Rattle.memory.proofs.Widths.{words-most}
 use Rattle.soundness.specs.Test.{rootMapTest}
-use Rattle.judge.proofs.Laws.Tests.{yes, no, same-eqb}
+use Rattle.judge.specs.Run.{run, asking}
+use Rattle.judge.specs.Rows.{used}
+use Rattle.judge.proofs.Laws.Numbers.{most-pages, row-in}
+use Rattle.judge.proofs.Laws.Search.{next-low, next-high, next-here}
+use Rattle.judge.proofs.Laws.Rows.{rowStep, rows-first, rows-end, asks-stop}
+use Rattle.judge.proofs.Laws.Sweeps.{root-run, root-row}
 use borrow.Author.Needs.{needs}
 use Rattle.judge.proofs.root.root_map.Statement.{statement}
 use Rattle.judge.proofs.root.root_map.Tie as tie
-use Rattle.judge.proofs.root.root_map.Reads as reads
-use Rattle.judge.proofs.root.root_map.Lts as lts
-use Rattle.judge.proofs.formatted.root_mapping.Reads as root-mapping-reads
-use Rattle.pages.proofs.virtual_page.Reads as virtual-page-reads
-use Rattle.pages.proofs.above.Reads as above-reads
-use Rattle.pages.proofs.mapping.Reads as mapping-reads
-use Rattle.pages.proofs.pages.Reads as pages-reads
 
--- src/root.rt:52:9
-mapping-requires : tie.Need-mapping-requires
-mapping-requires c κs = search needs
+abbrev Inv-loop : tie.InvT-loop
+Inv-loop b m n dir sh2 i₀ i = (i ≤ length dir) × (i < length dir → used dir i ≡ true) × (all (rootMapTest b m) (tabled b m 1) ≡ run (rowStep b m (asking (rootMapTest b m)) 1) true (from (pageWords b - i) i))
 
--- src/root.rt:53:25
-pages-requires : tie.Need-pages-requires
+abbrev μ-loop : tie.MeasureT-loop
+μ-loop b m n dir sh2 i₀ i = length dir - i
+
+-- src/root.rt:63:9
+pages-requires : tie.Need-pages-requires Inv-loop μ-loop
 pages-requires c κs = search needs
 
--- src/root.rt:53:38
-virtual-page-requires : tie.Need-virtual-page-requires
-virtual-page-requires c κs = search needs
+-- src/root.rt:64:30
+directory-requires : tie.Need-directory-requires Inv-loop μ-loop
+directory-requires c κs = search needs
 
--- src/root.rt:53:9
-root-mapping-requires : tie.Need-root-mapping-requires
-root-mapping-requires c κs = search needs
+-- src/root.rt:64:9
+words-of-requires : tie.Need-words-of-requires Inv-loop μ-loop
+words-of-requires c κs = search needs
 
--- src/root.rt:54:9
-returns : tie.Need-returns
-unfolding rootMapTest
-returns c = rw (no (rw (c .before .before .before .pages .ensures, c .before .before .virtual-page .ensures, c .before .before .before .before .mapping .ensures) at (c .before .root-mapping .ensures)) (c .if1 .taken))
+-- src/root.rt:65:30
+shadow2-requires : tie.Need-shadow2-requires Inv-loop μ-loop
+shadow2-requires c κs = search needs
 
--- src/root.rt:56:5
-above-requires : tie.Need-above-requires
-above-requires c κs = search needs
+-- src/root.rt:65:9
+words-of-requires-2 : tie.Need-words-of-requires-2 Inv-loop μ-loop
+words-of-requires-2 c κs = search needs
 
--- src/root.rt:48:1
-returns-2 : tie.Need-returns-2
-unfolding rootMapTest
-returns-2 c = rw (yes (rw (c .before .before .before .before .pages .ensures, c .before .before .before .virtual-page .ensures, c .before .before .before .before .before .mapping .ensures) at (c .before .before .root-mapping .ensures)) (c .before .if1 .left)) (same-eqb (c .above .ensures) refl)
+-- src/root.rt:66:9
+next-word-requires : tie.Need-next-word-requires Inv-loop μ-loop
+next-word-requires c κs = search needs
+
+-- src/root.rt:67:5
+loop-holds : tie.Need-loop-holds Inv-loop μ-loop
+loop-holds c =
+    let s = c .before .before .before .before .before .before .before .args in
+    let dir = c .before .before .before .words-of .result .now in
+    (next-high (used dir) (length dir) 0 (omega arith) (c .next-word .ensures), next-here (used dir) (length dir) 0 (omega arith) (c .next-word .ensures), rows-first (s .b) (s .m .now) (asking (rootMapTest (s .b) (s .m .now))) 1 dir (c .before .before .before .words-of .ensures ∙ ap (page (s .b) (s .m .now)) (c .before .before .before .before .directory .ensures)) true (root-run (s .b) (s .m .now) 1) (c .next-word .ensures))
+
+-- src/root.rt:68:33
+mul-table-of : tie.Need-mul-table-of Inv-loop μ-loop
+mul-table-of c = search needs
+
+-- src/root.rt:68:33
+shared-slice-read-table-of : tie.Need-shared-slice-read-table-of Inv-loop μ-loop
+shared-slice-read-table-of c = search needs
+
+-- src/root.rt:68:13
+table-of-requires : tie.Need-table-of-requires Inv-loop μ-loop
+table-of-requires c κs = search needs
+
+-- src/root.rt:69:33
+read-requires : tie.Need-read-requires Inv-loop μ-loop
+read-requires c κs = search needs
+
+-- src/root.rt:69:13
+table-of-requires-2 : tie.Need-table-of-requires-2 Inv-loop μ-loop
+table-of-requires-2 c κs = search needs
+
+-- src/root.rt:70:41
+cast-t14 : tie.Need-cast-t14 Inv-loop μ-loop
+cast-t14 c = omega (arith, dir-short (c .before .before .before .before .before .before .before .before .before .before .before .before .before .args .b) (c .before .before .before .before .before .before .before .before .before .before .before .before .before .args .m .now) (c .before .before .before .before .before .before .before .before .before .before .directory .result .0) (c .before .before .before .before .before .before .before .before .before .words-of .ensures), words-most (c .before .before .before .before .before .before .before .before .before .before .before .before .before .args .b) (c .before .before .before .before .before .before .before .before .before .before .before .before .before .pre .1))
+
+-- src/root.rt:70:53
+page-words-requires : tie.Need-page-words-requires Inv-loop μ-loop
+page-words-requires c κs = search needs
+
+-- src/root.rt:70:40
+mul-t16 : tie.Need-mul-t16 Inv-loop μ-loop
+mul-t16 c =
+    let e : c .before .before .before .before .before .before .loop .i * c .page-words .result ≡ c .before .before .before .before .before .before .loop .i * pageWords (c .before .before .before .before .before .before .before .before .before .before .before .before .before .before .args .b) = rw (c .page-words .ensures .0) in
+    omega (arith, row-in (c .before .before .before .before .before .before .before .before .before .before .before .before .before .before .args .b) (c .before .before .before .before .before .before .loop .i) (omega (arith, dir-short (c .before .before .before .before .before .before .before .before .before .before .before .before .before .before .args .b) (c .before .before .before .before .before .before .before .before .before .before .before .before .before .before .args .m .now) (c .before .before .before .before .before .before .before .before .before .before .before .directory .result .0) (c .before .before .before .before .before .before .before .before .before .before .words-of .ensures))), most-pages (c .before .before .before .before .before .before .before .before .before .before .before .before .before .before .args .b) (c .before .before .before .before .before .before .before .before .before .before .before .before .before .before .pre .1))
+
+-- src/root.rt:70:13
+root-row-requires : tie.Need-root-row-requires Inv-loop μ-loop
+root-row-requires c κs =
+    let e : c .before .before .before .before .before .before .loop .i * c .page-words .result ≡ c .before .before .before .before .before .before .loop .i * pageWords (c .before .before .before .before .before .before .before .before .before .before .before .before .before .before .args .b) = rw (c .page-words .ensures .0) in
+    (c .before .before .before .before .before .before .before .before .before .before .before .before .before .before .pre, omega (arith, row-in (c .before .before .before .before .before .before .before .before .before .before .before .before .before .before .args .b) (c .before .before .before .before .before .before .loop .i) (omega (arith, dir-short (c .before .before .before .before .before .before .before .before .before .before .before .before .before .before .args .b) (c .before .before .before .before .before .before .before .before .before .before .before .before .before .before .args .m .now) (c .before .before .before .before .before .before .before .before .before .before .before .directory .result .0) (c .before .before .before .before .before .before .before .before .before .before .words-of .ensures)))))
+
+-- src/root.rt:71:13
+returns : tie.Need-returns Inv-loop μ-loop
+returns c =
+    let s = c .before .before .before .before .before .before .before .before .before .before .before .before .before .before .before .before .args in
+    let e = c .before .before .before .before .before .before .before .before .before .before .before .before .words-of .ensures ∙ ap (page (s .b) (s .m .now)) (c .before .before .before .before .before .before .before .before .before .before .before .before .before .directory .ensures) in
+    asks-stop (s .b) (s .m .now) (rootMapTest (s .b) (s .m .now)) 1 (c .before .before .before .before .before .before .before .before .before .before .before .before .words-of .result .now) e (c .before .before .before .before .before .before .before .loop-test .taken) (root-row (s .b) (s .m .now) (c .before .before .before .before .before .before .before .before .loop .i) e (c .before .before .before .before .before .before .before .loop-test .taken) (c .before .before .before .before .before .before .before .before .loop .inv .1 (c .before .before .before .before .before .before .before .loop-test .taken)) (c .before .before .before .before .before .table-of .ensures) (c .before .before .before .before .before .before .before .before .before .before .words-of2 .ensures ∙ ap (page (s .b) (s .m .now)) (c .before .before .before .before .before .before .before .before .before .before .before .shadow2 .ensures)) (c .before .before .before .before .read .ensures) (c .before .before .before .table-of2 .ensures) (ap (λ (x : ℕ). c .before .before .before .before .before .before .before .before .loop .i * x) (c .before .before .page-words .ensures .0)) (c .before .before .before .before .before .before .before .before .before .before .before .before .before .before .pages .ensures) (c .before .root-row .ensures)) (c .if1 .taken) (c .before .before .before .before .before .before .before .before .loop .inv .2)
+
+-- src/root.rt:73:28
+add-next-word : tie.Need-add-next-word Inv-loop μ-loop
+add-next-word c = search needs
+
+-- src/root.rt:73:9
+next-word-requires-2 : tie.Need-next-word-requires-2 Inv-loop μ-loop
+next-word-requires-2 c κs = search needs
+
+-- src/root.rt:67:5
+loop-less : tie.Need-loop-less Inv-loop μ-loop
+loop-less c = omega (arith, next-low (used (c .before .before .before .before .before .before .before .before .before .before .before .before .before .words-of .result .now)) (length (c .before .before .before .before .before .before .before .before .before .before .before .before .before .words-of .result .now)) (c .before .before .before .before .before .before .before .before .before .loop .i + 1) (c .next-word2 .ensures))
+
+-- src/root.rt:67:5
+loop-again : tie.Need-loop-again Inv-loop μ-loop
+loop-again c =
+    let s = c .before .before .before .before .before .before .before .before .before .before .before .before .before .before .before .before .before .args in
+    let dir = c .before .before .before .before .before .before .before .before .before .before .before .before .before .words-of .result .now in
+    let e = c .before .before .before .before .before .before .before .before .before .before .before .before .before .words-of .ensures ∙ ap (page (s .b) (s .m .now)) (c .before .before .before .before .before .before .before .before .before .before .before .before .before .before .directory .ensures) in
+    (next-high (used dir) (length dir) (c .before .before .before .before .before .before .before .before .before .loop .i + 1) (omega arith) (c .next-word2 .ensures), next-here (used dir) (length dir) (c .before .before .before .before .before .before .before .before .before .loop .i + 1) (omega arith) (c .next-word2 .ensures), asks-next (s .b) (s .m .now) (rootMapTest (s .b) (s .m .now)) 1 dir e (c .before .before .before .before .before .before .before .before .loop-test .taken) (root-row (s .b) (s .m .now) (c .before .before .before .before .before .before .before .before .before .loop .i) e (c .before .before .before .before .before .before .before .before .loop-test .taken) (c .before .before .before .before .before .before .before .before .before .loop .inv .1 (c .before .before .before .before .before .before .before .before .loop-test .taken)) (c .before .before .before .before .before .before .table-of .ensures) (c .before .before .before .before .before .before .before .before .before .before .before .words-of2 .ensures ∙ ap (page (s .b) (s .m .now)) (c .before .before .before .before .before .before .before .before .before .before .before .before .shadow2 .ensures)) (c .before .before .before .before .before .read .ensures) (c .before .before .before .before .table-of2 .ensures) (ap (λ (x : ℕ). c .before .before .before .before .before .before .before .before .before .loop .i * x) (c .before .before .before .page-words .ensures .0)) (c .before .before .before .before .before .before .before .before .before .before .before .before .before .before .before .pages .ensures) (c .before .before .root-row .ensures)) (c .before .if1 .left) (c .next-word2 .ensures) (c .before .before .before .before .before .before .before .before .before .loop .inv .2))
+
+-- src/root.rt:59:1
+returns-2 : tie.Need-returns-2 Inv-loop μ-loop
+returns-2 c =
+    let s = c .before .before .before .before .before .before .before .before .before .args in
+    sym (rows-end (s .b) (s .m .now) (asking (rootMapTest (s .b) (s .m .now))) 1 (c .before .before .before .before .before .words-of .result .now) (c .before .before .before .before .before .words-of .ensures ∙ ap (page (s .b) (s .m .now)) (c .before .before .before .before .before .before .directory .ensures)) true (c .loop-test .left) (c .before .loop .inv .2))
 
 pub root-map-spec : {M : Type 1} → statement M
 root-map-spec =
     tie.close
     (tie.spec
-    mapping-requires
+    Inv-loop
+    μ-loop
     pages-requires
-    virtual-page-requires
-    root-mapping-requires
+    directory-requires
+    words-of-requires
+    shadow2-requires
+    words-of-requires-2
+    next-word-requires
+    loop-holds
+    mul-table-of
+    shared-slice-read-table-of
+    table-of-requires
+    read-requires
+    table-of-requires-2
+    cast-t14
+    page-words-requires
+    mul-t16
+    root-row-requires
     returns
-    above-requires
+    add-next-word
+    next-word-requires-2
+    loop-less
+    loop-again
     returns-2)

@@ -1,22 +1,15 @@
 use Rattle.judge.proofs.Laws.Judged.{header-most, unsound-header, clear-part}
 use Prim.Native.Nat.{ℕ}
-use mathlib.Core.Path.{_≡_, ap, _∙_}
+use mathlib.Core.Path.{ap, _∙_}
 use native.Mathlib.Omega.{arith}
 use Rattle.memory.specs.Partition.{pages}
 use Rattle.soundness.specs.Test.{headerTest}
 use Rattle.judging.specs.Quick.{quickTest}
 use Rattle.judging.proofs.Exact.{quick-exact}
-use Rattle.judge.proofs.Laws.Judged.{header-most, unsound-header}
-use Rattle.judge.proofs.Laws.Tests.{yes, no}
+use Rattle.forms.proofs.Laws.Tests.{yes, no}
 use borrow.Author.Needs.{needs}
 use Rattle.judge.proofs.sound.is_sound.Statement.{statement}
 use Rattle.judge.proofs.sound.is_sound.Tie as tie
-use Rattle.judge.proofs.sound.is_sound.Reads as reads
-use Rattle.judge.proofs.sound.is_sound.Lts as lts
-use Rattle.judge.proofs.header.header_test.Reads as header-test-reads
-use Rattle.judge.proofs.sound.judged_with.Reads as judged-with-reads
-use Rattle.pages.proofs.pages.Reads as pages-reads
-use Rattle.pages.proofs.width.Reads as width-reads
 
 -- src/sound.rt:37:9
 width-requires : tie.Need-width-requires

@@ -7,16 +7,10 @@ use Rattle.walk.specs.Marks.{Seen}
 use Rattle.walk.specs.Walk as W
 use Rattle.judging.specs.Quick.{partitionTest, quickTest}
 use Rattle.soundness.specs.Test.{own, judged, under}
-use Rattle.judge.proofs.Laws.Tests.{yes, no}
+use Rattle.forms.proofs.Laws.Tests.{yes, no}
 use borrow.Author.Needs.{needs}
 use Rattle.judge.proofs.sound.judged_with.Statement.{statement}
 use Rattle.judge.proofs.sound.judged_with.Tie as tie
-use Rattle.judge.proofs.sound.judged_with.Reads as reads
-use Rattle.judge.proofs.sound.judged_with.Lts as lts
-use Rattle.judge.proofs.root.root_test.Reads as root-test-reads
-use Rattle.judge.proofs.tree.tree_test.Reads as tree-test-reads
-use Rattle.judge.proofs.tree.under.Reads as under-reads
-use Rattle.pages.proofs.current.Reads as current-reads
 
 -- src/sound.rt:24:9
 root-test-requires : tie.Need-root-test-requires

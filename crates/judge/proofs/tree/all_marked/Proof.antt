@@ -1,16 +1,14 @@
-use Prim.Native.Nat.{_-_, _≤_}
+use Prim.Native.Nat.{_-_}
 use mathlib.Core.Path.{_≡_, refl, sym}
 use native.Mathlib.Omega.{arith}
 use lib.ListN.{length, getD}
 use lib.Dec.{eqb}
 use borrow.Author.Tests.{eq-eqb, ne-eqb}
 use Rattle.walk.specs.Finite.{from, all}
-use Rattle.judge.proofs.Laws.Loops.{all-go, all-stop, all-end}
+use Rattle.forms.proofs.Laws.Loops.{all-go, all-stop, all-end}
 use borrow.Author.Needs.{needs}
 use Rattle.judge.proofs.tree.all_marked.Statement.{statement}
 use Rattle.judge.proofs.tree.all_marked.Tie as tie
-use Rattle.judge.proofs.tree.all_marked.Reads as reads
-use Rattle.judge.proofs.tree.all_marked.Lts as lts
 
 abbrev Inv-loop : tie.InvT-loop
 Inv-loop seen i₀ i = all (λ p. eqb (getD seen p 0) 1) (from (length seen - 1) 1) ≡ all (λ p. eqb (getD seen p 0) 1) (from (length seen - i) i)

@@ -1,17 +1,9 @@
 use mathlib.Core.Path.{refl}
 use Rattle.judge.proofs.Laws.Tree.{placed-as}
-use Rattle.judge.proofs.Laws.Tests.{yes, no, unequal, equal, same-eqb}
+use Rattle.forms.proofs.Laws.Tests.{yes, no, unequal, equal, same-eqb}
 use borrow.Author.Needs.{needs}
 use Rattle.judge.proofs.tree.placed.Statement.{statement}
 use Rattle.judge.proofs.tree.placed.Tie as tie
-use Rattle.judge.proofs.tree.placed.Reads as reads
-use Rattle.judge.proofs.tree.placed.Lts as lts
-use Rattle.judge.proofs.addresses.virtual_address.Reads as virtual-address-reads
-use Rattle.judge.proofs.children.child_at.Reads as child-at-reads
-use Rattle.judge.proofs.children.child_of.Reads as child-of-reads
-use Rattle.pages.proofs.table_for.Reads as table-for-reads
-use Rattle.pages.proofs.parent.Reads as parent-reads
-use Rattle.pages.proofs.read_word.Reads as read-word-reads
 
 -- src/tree.rt:61:9
 parent-requires : tie.Need-parent-requires

@@ -5,10 +5,6 @@ use Rattle.judge.proofs.Laws.Judged.{judged-no, judged-yes}
 use borrow.Author.Needs.{needs}
 use Rattle.judge.proofs.tree.tree_test.Statement.{statement}
 use Rattle.judge.proofs.tree.tree_test.Tie as tie
-use Rattle.judge.proofs.tree.tree_test.Reads as reads
-use Rattle.judge.proofs.tree.tree_test.Lts as lts
-use Rattle.judge.proofs.cycle.judge_partition.Reads as judge-partition-reads
-use Rattle.judge.proofs.tree.all_marked.Reads as all-marked-reads
 
 -- src/tree.rt:50:9
 judge-partition-requires : tie.Need-judge-partition-requires

@@ -3,14 +3,10 @@ use mathlib.Core.Path.{_≡_, refl, sym, ap, _∙_}
 use native.Mathlib.Omega.{arith}
 use Rattle.soundness.specs.Test.{under}
 use Rattle.judge.proofs.Laws.Tree.{under-root, under-not, under-up, under-end}
-use Rattle.judge.proofs.Laws.Tests.{yes, no}
+use Rattle.forms.proofs.Laws.Tests.{yes, no}
 use borrow.Author.Needs.{needs}
 use Rattle.judge.proofs.tree.under.Statement.{statement}
 use Rattle.judge.proofs.tree.under.Tie as tie
-use Rattle.judge.proofs.tree.under.Reads as reads
-use Rattle.judge.proofs.tree.under.Lts as lts
-use Rattle.judge.proofs.tree.placed.Reads as placed-reads
-use Rattle.pages.proofs.parent.Reads as parent-reads
 
 abbrev Inv-loop : tie.InvT-loop
 Inv-loop b m p₀ left₀ p left = under b m 8 p₀ ≡ under b m left p

@@ -1,0 +1,162 @@
+// What is counted in a partition's tables, one sweep over its rows for all of it; and what its parent lends to it.
+use crate::rows::next_word;
+use crate::rows::table_of;
+use crate::rows::words_of;
+use pages::PhysicalPage;
+use pages::accessible;
+use pages::directory;
+use pages::page_of;
+use pages::page_words;
+use pages::read;
+use pages::shadow1;
+use pages::threes;
+ghost use mathlib.Core.Path.{_≡_};
+ghost use mathlib.Core.Bool.{not};
+ghost use Prim.Native.Nat.{_*_, _≤_};
+ghost use lib.Dec.{eqb};
+ghost use lib.ListN.{length, getD};
+ghost use Rattle.walk.specs.Finite.{from};
+ghost use Rattle.memory.specs.Geometry.{pageWords};
+ghost use Rattle.judging.specs.Quick.{shutCount, dueCount, lentCount, mappedCount};
+ghost use Rattle.judge.specs.Run.{run, adding, bit};
+ghost use Rattle.judge.specs.Rows.{shutWords, dueWords};
+ghost use Rattle.pages.specs.Width.{Width};
+
+// The pages mapped, those neither lent nor accessible, and the kernel pages of the children. The last is a sum in 64 bits, since a child's list may have any
+// number of threes.
+pub struct Counts {
+    pub mapped: u32,
+    pub shut: u32,
+    pub due: u64,
+}
+
+// A page is there that is neither lent nor accessible.
+fn shut_bit(w: u32, x: u32) -> u32
+    ensures { λ r. ⌜ (r ≡ bit (shutWords w x)) × (r ≤ 1) ⌝ }
+{
+    if w == 0 {
+        return 0;
+    }
+    if 1 < x {
+        return 0;
+    }
+    if accessible(w) == 0 {
+        return 1;
+    }
+    0
+}
+
+// The kernel pages of the child that stands there, if one does: its five, and those of its list.
+fn due_pages(b: u32, m: &[u32], w: u32, x: u32) -> u64
+    requires { ⌜ Width b ⌝ }
+    ensures { λ r. ⌜ (r ≡ dueWords b (now (m .entry)) w x) × (r ≤ 12884901893) ⌝ }
+{
+    if w == 0 {
+        return 0;
+    }
+    if x != 1 {
+        return 0;
+    }
+    5 + 3 * (threes(b, m, page_of(b, w)) as u64)
+}
+
+// A row, whose page table is pt and whose shadow 1 table is s1.
+pub fn tally_row(b: u32, m: &[u32], pt: &[u32], s1: &[u32]) -> Counts
+    requires { ⌜ Width b ⌝ }
+    requires short { ⌜ length (now pt) ≤ pageWords b ⌝ }
+    ensures { λ r.
+        ⌜
+        (r .mapped ≡ run (adding (λ j. bit (not (eqb (getD (now (pt .entry)) j 0) 0)))) 0 (from (pageWords b) 0))
+        × (r .shut ≡ run (adding (λ j. bit (shutWords (getD (now (pt .entry)) j 0) (getD (now (s1 .entry)) j 0)))) 0 (from (pageWords b) 0))
+        × (r .due ≡ run (adding (λ j. dueWords b (now (m .entry)) (getD (now (pt .entry)) j 0) (getD (now (s1 .entry)) j 0))) 0 (from (pageWords b) 0))
+        × (r .mapped ≤ 1024)
+        × (r .shut ≤ 1024)
+        × (r .due ≤ 13194139538432)
+        ⌝ }
+{
+    let mut mapped: u32 = 0;
+    let mut shut: u32 = 0;
+    let mut due: u64 = 0;
+    let mut j = next_word(pt, 0);
+    while j < pt.len() {
+        let w = pt[j];
+        let x = read(s1, j);
+        mapped += 1;
+        shut += shut_bit(w, x);
+        due += due_pages(b, m, w, x);
+        j = next_word(pt, j + 1);
+    }
+    Counts { mapped, shut, due }
+}
+
+// All rows of d.
+pub fn tally(b: u32, m: &[u32], d: PhysicalPage) -> Counts
+    requires { ⌜ Width b ⌝ }
+    ensures { λ r.
+        ⌜
+        (r .mapped ≡ mappedCount b (now (m .entry)) (d .0))
+        × (r .shut ≡ shutCount b (now (m .entry)) (d .0))
+        × (r .due ≡ dueCount b (now (m .entry)) (d .0))
+        ⌝ }
+{
+    let dir = words_of(b, m, directory(b, m, d));
+    let sh1 = words_of(b, m, shadow1(b, m, d));
+    let mut mapped: u32 = 0;
+    let mut shut: u32 = 0;
+    let mut due: u64 = 0;
+    let mut i = next_word(dir, 0);
+    while i < dir.len() {
+        let pt = table_of(b, m, dir[i]);
+        let s1 = table_of(b, m, read(sh1, i));
+        let t = tally_row(b, m, pt, s1);
+        mapped += t.mapped;
+        shut += t.shut;
+        due += t.due;
+        i = next_word(dir, i + 1);
+    }
+    Counts { mapped, shut, due }
+}
+
+fn same_bit(x: u32, y: u32) -> u32
+    ensures { λ r. ⌜ (r ≡ bit (eqb x y)) × (r ≤ 1) ⌝ }
+{
+    if x == y {
+        return 1;
+    }
+    0
+}
+
+// How many words of a row's shadow 1 table s1 are v; those past its end count as 0.
+pub fn lent_row(b: u32, s1: &[u32], v: u32) -> u32
+    requires { ⌜ Width b ⌝ }
+    requires short { ⌜ length (now s1) ≤ pageWords b ⌝ }
+    ensures { λ r. ⌜ (r ≡ run (adding (λ j. bit (eqb (getD (now (s1 .entry)) j 0) v))) 0 (from (pageWords b) 0)) × (r ≤ 1024) ⌝ }
+{
+    let n = s1.len() as u32;
+    let mut k: u32 = 0;
+    let mut j = 0;
+    while j < s1.len() {
+        k += same_bit(s1[j], v);
+        j += 1;
+    }
+    if v == 0 {
+        return k + (page_words(b) - n);
+    }
+    k
+}
+
+// How many pages d lends to its child at v.
+pub fn lent_count(b: u32, m: &[u32], d: PhysicalPage, v: u32) -> u32
+    requires { ⌜ Width b ⌝ }
+    ensures { λ r. ⌜ r ≡ lentCount b (now (m .entry)) (d .0) v ⌝ }
+{
+    let dir = words_of(b, m, directory(b, m, d));
+    let sh1 = words_of(b, m, shadow1(b, m, d));
+    let mut k: u32 = 0;
+    let mut i = next_word(dir, 0);
+    while i < dir.len() {
+        k += lent_row(b, table_of(b, m, read(sh1, i)), v);
+        i = next_word(dir, i + 1);
+    }
+    k
+}
