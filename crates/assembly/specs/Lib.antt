@@ -1,0 +1,6 @@
+pub mod Text
+pub mod Numbers
+pub mod Names
+pub mod Lines
+pub mod Assembled
+pub mod Messages
