@@ -4,3 +4,5 @@ pub mod Names
 pub mod Lines
 pub mod Assembled
 pub mod Messages
+pub mod Steps
+pub mod Told

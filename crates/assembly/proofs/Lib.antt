@@ -1,0 +1,6 @@
+pub mod Cuts
+pub mod Splits
+pub mod Values
+pub mod Called
+pub mod Reasons
+pub mod Records

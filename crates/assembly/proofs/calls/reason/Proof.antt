@@ -1,0 +1,79 @@
+use borrow.Author.Needs.{needs}
+use Rattle.assembly.proofs.calls.reason.Statement.{statement}
+use Rattle.assembly.proofs.calls.reason.Tie as tie
+use Rattle.assembly.proofs.calls.reason.Reads as reads
+use Rattle.assembly.proofs.calls.reason.Lts as lts
+use Rattle.assembly.proofs.names.call_number.Reads as call-number-reads
+use Rattle.assembly.proofs.numbers.all_numbers.Reads as all-numbers-reads
+use Rattle.assembly.proofs.parts.count_words.Reads as count-words-reads
+use Rattle.script.proofs.argument_count.Reads as argument-count-reads
+
+-- src/calls.rt:57:9
+call-number-requires : tie.Need-call-number-requires
+call-number-requires c κs = search needs
+
+-- src/calls.rt:59:9
+returns : tie.Need-returns
+returns c = ?
+
+-- src/calls.rt:61:9
+argument-count-requires : tie.Need-argument-count-requires
+argument-count-requires c κs = search needs
+
+-- src/calls.rt:62:9
+count-words-requires : tie.Need-count-words-requires
+count-words-requires c κs = search needs
+
+-- src/calls.rt:64:9
+returns-2 : tie.Need-returns-2
+returns-2 c = ?
+
+-- src/calls.rt:67:9
+returns-3 : tie.Need-returns-3
+returns-3 c = ?
+
+-- src/calls.rt:69:9
+all-numbers-requires : tie.Need-all-numbers-requires
+all-numbers-requires c κs = search needs
+
+-- src/calls.rt:70:9
+returns-4 : tie.Need-returns-4
+returns-4 c = ?
+
+-- src/calls.rt:72:15
+add-if5 : tie.Need-add-if5
+add-if5 c = search needs
+
+-- src/calls.rt:72:24
+mul-if5 : tie.Need-mul-if5
+mul-if5 c = search needs
+
+-- src/calls.rt:72:15
+add-if5-2 : tie.Need-add-if5-2
+add-if5-2 c = search needs
+
+-- src/calls.rt:73:9
+returns-5 : tie.Need-returns-5
+returns-5 c = ?
+
+-- src/calls.rt:53:1
+returns-6 : tie.Need-returns-6
+returns-6 c = ?
+
+pub reason-spec : {M : Type 1} → statement M
+reason-spec =
+    tie.close
+    (tie.spec
+    call-number-requires
+    returns
+    argument-count-requires
+    count-words-requires
+    returns-2
+    returns-3
+    all-numbers-requires
+    returns-4
+    add-if5
+    mul-if5
+    add-if5-2
+    returns-5
+    returns-6)
