@@ -4,3 +4,5 @@ pub mod Values
 pub mod Called
 pub mod Reasons
 pub mod Records
+pub mod Runs
+pub mod Pages

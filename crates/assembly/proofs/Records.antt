@@ -18,7 +18,7 @@ use Rattle.assembly.specs.Steps.{part, NextWord, LineRead}
 use Rattle.assembly.proofs.Cuts.{to-end}
 use Rattle.assembly.proofs.Values.{number-here}
 
-overwrite-nil : (m : List ℕ) (i : ℕ) → m ≡ overwrite m i []
+pub overwrite-nil : (m : List ℕ) (i : ℕ) → m ≡ overwrite m i []
 overwrite-nil [] i = refl
 overwrite-nil (x ∷ xs) zero = refl
 overwrite-nil (x ∷ xs) (suc i) = ap (λ (l : List ℕ). x ∷ l) (overwrite-nil xs i)

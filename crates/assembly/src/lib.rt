@@ -1,8 +1,11 @@
 // Scripts by hand: from a text to a replay script, or to the first line that can't be read and why.
+pub mod assembling;
 pub mod calls;
 pub mod names;
 pub mod numbers;
 pub mod parts;
+
+pub use assembling::assemble;
 
 // A script of so many bytes, or a line by its number and why it can't be read, or a text that is too long.
 pub enum Assembled {

@@ -1,3 +1,4 @@
+use Rattle.script.proofs.Puts.{put-same}
 use borrow.Author.Needs.{needs}
 use Rattle.assembly.proofs.calls.put_word.Statement.{statement}
 use Rattle.assembly.proofs.calls.put_word.Tie as tie
@@ -24,7 +25,7 @@ same-length c = search needs
 
 -- src/calls.rt:24:1
 returns : tie.Need-returns
-returns c = ?
+returns c = put-same (c .before .before .before .before .before .little-endian .ensures) (c .before .before .put .ensures)
 
 pub put-word-spec : {M : Type 1} → statement M
 put-word-spec =

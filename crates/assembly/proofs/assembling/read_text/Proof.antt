@@ -1,0 +1,136 @@
+use Rattle.assembly.proofs.assembling.read_text.Statement.{statement}
+use Rattle.assembly.proofs.assembling.read_text.Tie as tie
+use Rattle.assembly.proofs.assembling.read_text.Reads as reads
+use Rattle.assembly.proofs.assembling.read_text.Lts as lts
+use Rattle.assembly.proofs.assembling.pages_of.Reads as pages-of-reads
+use Rattle.assembly.proofs.assembling.read_calls.Reads as read-calls-reads
+use Rattle.assembly.proofs.parts.count_words.Reads as count-words-reads
+use Rattle.assembly.proofs.parts.line_at.Reads as line-at-reads
+
+abbrev Inv-loop : tie.InvT-loop
+Inv-loop text out₀ i₀ k₀ out i k = ?
+
+abbrev μ-loop : tie.MeasureT-loop
+μ-loop text out₀ i₀ k₀ out i k = ?
+
+-- src/assembling.rt:94:5
+loop-holds : tie.Need-loop-holds Inv-loop μ-loop
+loop-holds c = ?
+
+-- src/assembling.rt:95:13
+line-at-requires : tie.Need-line-at-requires Inv-loop μ-loop
+line-at-requires c κs = ?
+
+-- src/assembling.rt:98:24
+sub-count-words : tie.Need-sub-count-words Inv-loop μ-loop
+sub-count-words c = ?
+
+-- src/assembling.rt:98:24
+part-count-words-start : tie.Need-part-count-words-start Inv-loop μ-loop
+part-count-words-start c = ?
+
+-- src/assembling.rt:98:24
+part-count-words-end : tie.Need-part-count-words-end Inv-loop μ-loop
+part-count-words-end c = ?
+
+-- src/assembling.rt:98:12
+count-words-requires : tie.Need-count-words-requires Inv-loop μ-loop
+count-words-requires c κs = ?
+
+-- src/assembling.rt:99:30
+sub-pages-of : tie.Need-sub-pages-of Inv-loop μ-loop
+sub-pages-of c = ?
+
+-- src/assembling.rt:99:30
+part-pages-of-start : tie.Need-part-pages-of-start Inv-loop μ-loop
+part-pages-of-start c = ?
+
+-- src/assembling.rt:99:30
+part-pages-of-end : tie.Need-part-pages-of-end Inv-loop μ-loop
+part-pages-of-end c = ?
+
+-- src/assembling.rt:99:17
+pages-of-requires : tie.Need-pages-of-requires Inv-loop μ-loop
+pages-of-requires c κs = ?
+
+-- src/assembling.rt:101:17
+same-length : tie.Need-same-length Inv-loop μ-loop
+same-length c = ?
+
+-- src/assembling.rt:101:17
+returns : tie.Need-returns Inv-loop μ-loop
+returns c = ?
+
+-- src/assembling.rt:103:37
+add-read-calls : tie.Need-add-read-calls Inv-loop μ-loop
+add-read-calls c = ?
+
+-- src/assembling.rt:103:44
+add-read-calls-2 : tie.Need-add-read-calls-2 Inv-loop μ-loop
+add-read-calls-2 c = ?
+
+-- src/assembling.rt:103:13
+read-calls-requires : tie.Need-read-calls-requires Inv-loop μ-loop
+read-calls-requires c κs = ?
+
+-- src/assembling.rt:103:13
+same-length-2 : tie.Need-same-length-2 Inv-loop μ-loop
+same-length-2 c = ?
+
+-- src/assembling.rt:103:13
+returns-2 : tie.Need-returns-2 Inv-loop μ-loop
+returns-2 c = ?
+
+-- src/assembling.rt:105:9
+add-k : tie.Need-add-k Inv-loop μ-loop
+add-k c = ?
+
+-- src/assembling.rt:106:13
+add-i : tie.Need-add-i Inv-loop μ-loop
+add-i c = ?
+
+-- src/assembling.rt:94:5
+loop-less : tie.Need-loop-less Inv-loop μ-loop
+loop-less c = ?
+
+-- src/assembling.rt:94:5
+loop-again : tie.Need-loop-again Inv-loop μ-loop
+loop-again c = ?
+
+-- src/assembling.rt:87:1
+same-length-3 : tie.Need-same-length-3 Inv-loop μ-loop
+same-length-3 c = ?
+
+-- src/assembling.rt:87:1
+returns-3 : tie.Need-returns-3 Inv-loop μ-loop
+returns-3 c = ?
+
+pub read-text-spec : {M : Type 1} → statement M
+read-text-spec =
+    tie.close
+    (tie.spec
+    Inv-loop
+    μ-loop
+    loop-holds
+    line-at-requires
+    sub-count-words
+    part-count-words-start
+    part-count-words-end
+    count-words-requires
+    sub-pages-of
+    part-pages-of-start
+    part-pages-of-end
+    pages-of-requires
+    same-length
+    returns
+    add-read-calls
+    add-read-calls-2
+    read-calls-requires
+    same-length-2
+    returns-2
+    add-k
+    add-i
+    loop-less
+    loop-again
+    same-length-3
+    returns-3)
