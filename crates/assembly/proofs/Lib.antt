@@ -6,3 +6,4 @@ pub mod Reasons
 pub mod Records
 pub mod Runs
 pub mod Pages
+pub mod Answers

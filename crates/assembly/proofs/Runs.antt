@@ -65,7 +65,7 @@ module _ (text start : List ℕ) (n : ℕ) where
 
 -- ---- the end: the header is put before the records
 
-take-over : (m xs : List ℕ) → length xs ≤ length m → take (length xs) (overwrite m 0 xs) ≡ xs
+pub take-over : (m xs : List ℕ) → length xs ≤ length m → take (length xs) (overwrite m 0 xs) ≡ xs
 take-over m [] h = refl
 take-over [] (x ∷ xs) h = absurd (not-suc-le-zero h)
 take-over (y ∷ m) (x ∷ xs) h = ap (λ (l : List ℕ). x ∷ l) (take-over m xs (le-of-suc-le-suc h))
@@ -83,9 +83,9 @@ pub headed : (text start : List ℕ) (n : ℕ) {goal : Result} {out after : List
 unfolding calls lines
 headed text start n {goal} {out} {after} {i} {k} {count} {at} r h room p =
     let whole : take at after ≡ header n count ++ r .records =
-        ap (λ (l : List ℕ). take at l) (p .bytes ∙ ap (λ (l : List ℕ). overwrite l 0 (header n count)) (r .put .bytes))
-        ∙ ap (λ (j : ℕ). take j (overwrite (overwrite start 12 (r .records)) 0 (header n count))) (r .put .next)
-        ∙ both-taken start (header n count) (r .records) (omega (arith, r .put .next)) in
+    ap (λ (l : List ℕ). take at l) (p .bytes ∙ ap (λ (l : List ℕ). overwrite l 0 (header n count)) (r .put .bytes))
+    ∙ ap (λ (j : ℕ). take j (overwrite (overwrite start 12 (r .records)) 0 (header n count))) (r .put .next)
+    ∙ both-taken start (header n count) (r .records) (omega (arith, r .put .next)) in
     ap written whole ∙ ap (λ (s : List ℕ). calls n k count (r .records) (lines s)) (sym (end-at text i h)) ∙ r .left
 
 -- ---- the line that has N

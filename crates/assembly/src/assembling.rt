@@ -108,6 +108,17 @@ pub fn read_text(text: &[u8], out: &mut [u8]) -> Assembled
     Assembled::Unread(k, 7)
 }
 
+// How many bytes the script has, or 0 where there is none.
+pub fn script_length(a: Assembled) -> usize
+    ensures { λ r. ⌜ r ≡ size a ⌝ }
+{
+    match a {
+        Assembled::Script(n) => n,
+        Assembled::Unread(_, _) => 0,
+        Assembled::TooLong => 0,
+    }
+}
+
 // Room for the longest script.
 fn longest_script() -> [u8; 4096]
     ensures { λ r. ⌜ 4096 ≡ length r ⌝ }
@@ -126,12 +137,7 @@ pub fn assemble(text: &[u8], out: &mut [u8; 4096]) -> Assembled
     }
     let mut bytes = longest_script();
     let r = read_text(text, &mut bytes);
-    match r {
-        Assembled::Script(n) => {
-            put(out, 0, &bytes[..n]);
-            Assembled::Script(n)
-        }
-        Assembled::Unread(k, why) => Assembled::Unread(k, why),
-        Assembled::TooLong => Assembled::TooLong,
-    }
+    let n = script_length(r);
+    put(out, 0, &bytes[..n]);
+    r
 }

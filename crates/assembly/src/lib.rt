@@ -6,6 +6,7 @@ pub mod numbers;
 pub mod parts;
 
 pub use assembling::assemble;
+pub use assembling::script_length;
 
 // A script of so many bytes, or a line by its number and why it can't be read, or a text that is too long.
 pub enum Assembled {
