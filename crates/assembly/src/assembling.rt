@@ -1,5 +1,6 @@
 // The lines in turn: first the one that has N, then the calls.
 use crate::Assembled;
+use crate::buffers::script_buffer;
 use crate::calls::put_word;
 use crate::calls::read_line;
 use crate::numbers::is_number;
@@ -119,13 +120,6 @@ pub fn script_length(a: Assembled) -> usize
     }
 }
 
-// Room for the longest script.
-fn longest_script() -> [u8; 4096]
-    ensures { λ r. ⌜ 4096 ≡ length r ⌝ }
-{
-    [0; 4096]
-}
-
 // The script stands at the start of `out`; where there is none, `out` is as it was.
 pub fn assemble(text: &[u8], out: &mut [u8; 4096]) -> Assembled
     ensures { λ r. ⌜ (told r (now (out .exit)) ≡ assembled (now (text .entry)))
@@ -135,7 +129,7 @@ pub fn assemble(text: &[u8], out: &mut [u8; 4096]) -> Assembled
     if text.len() > 65536 {
         return Assembled::TooLong;
     }
-    let mut bytes = longest_script();
+    let mut bytes = script_buffer();
     let r = read_text(text, &mut bytes);
     let n = script_length(r);
     put(out, 0, &bytes[..n]);

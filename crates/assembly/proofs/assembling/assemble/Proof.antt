@@ -7,7 +7,7 @@ use Rattle.assembly.proofs.assembling.assemble.Statement.{statement}
 use Rattle.assembly.proofs.assembling.assemble.Tie as tie
 use Rattle.assembly.proofs.assembling.assemble.Reads as reads
 use Rattle.assembly.proofs.assembling.assemble.Lts as lts
-use Rattle.assembly.proofs.assembling.longest_script.Reads as longest-script-reads
+use Rattle.assembly.proofs.buffers.script_buffer.Reads as script-buffer-reads
 use Rattle.assembly.proofs.assembling.read_text.Reads as read-text-reads
 use Rattle.assembly.proofs.assembling.script_length.Reads as script-length-reads
 use Rattle.script.proofs.put.Reads as put-reads
@@ -17,8 +17,8 @@ returns : tie.Need-returns
 returns c = long (c .before .before .args .text .now) (c .before .before .args .out .now) (c .if1 .taken)
 
 -- src/assembling.rt:138:21
-longest-script-requires : tie.Need-longest-script-requires
-longest-script-requires c κs = search needs
+script-buffer-requires : tie.Need-script-buffer-requires
+script-buffer-requires c κs = search needs
 
 -- src/assembling.rt:139:29
 slice-aggregate-read-text : tie.Need-slice-aggregate-read-text
@@ -56,7 +56,7 @@ assemble-spec =
     tie.close
     (tie.spec
     returns
-    longest-script-requires
+    script-buffer-requires
     slice-aggregate-read-text
     read-text-requires
     script-length-requires
