@@ -7,3 +7,5 @@ pub mod Records
 pub mod Runs
 pub mod Pages
 pub mod Answers
+pub mod Words
+pub mod ReadBack

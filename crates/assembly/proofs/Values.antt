@@ -26,7 +26,7 @@ below-digits x h = rw (lt-leb 48 x h) refl
 pub by-nine : (x : ℕ) → 48 ≤ x → leb x 57 ≡ isDigit x
 by-nine x h = rw (le-leb 48 x h) refl
 
-itself : {t : Bool} → Tells t (t ≡ true)
+pub itself : {t : Bool} → Tells t (t ≡ true)
 itself = ((λ e. e), λ e. e)
 
 module _ (w : List ℕ) (i : ℕ) where

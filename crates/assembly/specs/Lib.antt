@@ -4,5 +4,6 @@ pub mod Names
 pub mod Lines
 pub mod Assembled
 pub mod Messages
+pub mod Meant
 pub mod Steps
 pub mod Told
