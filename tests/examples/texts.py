@@ -35,7 +35,8 @@ def text(rng):
         name, count = CALLS[n]
         count += 0 if rng.random() >= slip else rng.choice([-1, 1])
         first = some(rng, [name, name, str(n + 1), '0' + str(n + 1)], ['0', '13', name[1:], name + 's', name.upper(), '00000000001'], slip)
-        out += skipped() + blank().join([first] + [some(rng, NUMBERS, SLIPS, slip / 3) for _ in range(count)]) + rng.choice(['', ' ', '#', ' # done', '\r']) + '\n'
+        call = [first] + [some(rng, NUMBERS, SLIPS, slip / 3) for _ in range(count)]
+        out += skipped() + blank().join(call) + rng.choice(['', ' ', '#', ' # done', '\r']) + '\n'
     return (out if rng.random() < 0.8 else out.rstrip('\n')).encode()
 
 

@@ -2,7 +2,7 @@
 use mathlib.Core.Path.{_≡_, refl, sym, ap, _∙_}
 use mathlib.Core.Bool.{Bool, true, false, cond}
 use mathlib.Core.List.{List, [], _∷_}
-use Prim.Native.Nat.{ℕ, zero, suc, _+_, _-_, _≤_, _<_}
+use Prim.Native.Nat.{ℕ, suc, _+_, _-_, _≤_, _<_}
 use native.Mathlib.Omega.{arith}
 use native.Mathlib.Numerals.{add-one}
 use lib.Dec.{eqb}
@@ -44,7 +44,8 @@ module _ (s : List ℕ) (b i : ℕ) where
   unfolding before
   missing h = ap (λ (l : List ℕ). length (before b l)) (end-at s i h)
 
-front : (b x : ℕ) (xs : List ℕ) (t : Bool) → eqb x b ≡ t → take (length (before b xs)) xs ≡ before b xs → take (length (before b (x ∷ xs))) (x ∷ xs) ≡ before b (x ∷ xs)
+front : (b x : ℕ) (xs : List ℕ) (t : Bool) → eqb x b ≡ t → take (length (before b xs)) xs ≡ before b xs
+    → take (length (before b (x ∷ xs))) (x ∷ xs) ≡ before b (x ∷ xs)
 front b x xs true e h = rw (stop b x xs e) refl
 front b x xs false e h = rw (go b x xs e) (ap (λ (l : List ℕ). x ∷ l) h)
 

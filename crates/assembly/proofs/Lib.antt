@@ -8,4 +8,5 @@ pub mod Runs
 pub mod Pages
 pub mod Answers
 pub mod Words
+pub mod Recorded
 pub mod ReadBack

@@ -2,134 +2,31 @@
 use mathlib.Core.Path.{_≡_, refl, sym, ap, _∙_, subst}
 use mathlib.Core.Bool.{Bool, true, false, cond, _&&_}
 use mathlib.Core.List.{List, [], _∷_, _++_, append-assoc, append-nil}
-use mathlib.Core.Option.{Option, none, some}
-use Prim.Native.Nat.{ℕ, zero, suc, _+_, _*_, _≤_, _<_}
+use mathlib.Core.Option.{none, some}
+use Prim.Native.Nat.{ℕ, suc, _+_, _*_, _≤_}
 use native.Mathlib.Omega.{arith}
-use native.Mathlib.Numerals.{add-one}
 use lib.Dec.{eqb, leb, ltb}
-use lib.ListN.{length, getD, length-append}
-use borrow.Author.Tests.{eq-eqb, le-leb, eqb-true, eqb-false}
+use lib.ListN.{length, length-append}
+use borrow.Author.Tests.{eqb-true, eqb-false}
 use Rattle.walk.specs.Reflect.{both, le?}
 use Rattle.memory.specs.Format.{format}
 use Rattle.rules.specs.Bytes.{littleEndian, wordIn}
-use Rattle.rules.specs.Call.{Call, createPartition, deletePartition, addVAddr, removeVAddr, pageCount, prepare, collect, mappedInChild, enter, leave, load, store}
+use Rattle.rules.specs.Call.{Call}
 use Rattle.rules.specs.Calls.{answers}
-use Rattle.rules.specs.Replay.{argumentCount, knownCall, callOf, push, records, script, transcript, replayed, replay}
-use Rattle.script.specs.Walk.{goodHeader, wholeRecord, nextRecord, argumentAt, callAt}
-use Rattle.script.proofs.Walks.{arguments-most, known?, whole?}
+use Rattle.rules.specs.Replay.{records, script, transcript, replayed, replay}
+use Rattle.script.specs.Walk.{goodHeader}
 use Rattle.script.proofs.Heads.{header?, script-is}
 use Rattle.assembly.specs.Text.{lines, words}
-use Rattle.assembly.specs.Numbers.{number, isNumber, allNumbers}
-use Rattle.assembly.specs.Names.{names, same, placeFrom, named, callNumber}
+use Rattle.assembly.specs.Numbers.{number, isNumber}
+use Rattle.assembly.specs.Names.{callNumber}
 use Rattle.assembly.specs.Lines.{pagesOf, arguments, recordOf, callsIn, reason}
 use Rattle.assembly.specs.Assembled.{Result, written, unread, tooLong, header, calls, begin, assembled}
 use Rattle.assembly.specs.Meant.{callOn, callsOn, pagesMeant, callsMeant}
 use Rattle.assembly.proofs.Values.{itself}
-use Rattle.assembly.proofs.Reasons.{Fine, fine}
+use Rattle.assembly.proofs.Reasons.{fine}
 use Rattle.assembly.proofs.Records.{arguments-length}
-use Rattle.assembly.proofs.Words.{four-bytes, word-here, number-here}
-
--- ---- a call by its number and those of its arguments that it has
-
-agree : (n : ℕ) (f g : ℕ → ℕ) → 1 ≤ n → n ≤ 12 → ((j : ℕ) → j < argumentCount n → f j ≡ g j) → callOf n f ≡ callOf n g
-unfolding callOf
-agree zero f g h k e = absurd (omega arith)
-agree (suc zero) f g h k e = rw (e 0 (omega arith), e 1 (omega arith), e 2 (omega arith), e 3 (omega arith), e 4 (omega arith)) refl
-agree (suc (suc zero)) f g h k e = rw (e 0 (omega arith)) refl
-agree (suc (suc (suc zero))) f g h k e = rw (e 0 (omega arith), e 1 (omega arith), e 2 (omega arith), e 3 (omega arith)) refl
-agree (suc (suc (suc (suc zero)))) f g h k e = rw (e 0 (omega arith), e 1 (omega arith)) refl
-agree (suc (suc (suc (suc (suc zero))))) f g h k e = rw (e 0 (omega arith), e 1 (omega arith)) refl
-agree (suc (suc (suc (suc (suc (suc zero)))))) f g h k e = rw (e 0 (omega arith), e 1 (omega arith), e 2 (omega arith)) refl
-agree (suc (suc (suc (suc (suc (suc (suc zero))))))) f g h k e = rw (e 0 (omega arith), e 1 (omega arith)) refl
-agree (suc (suc (suc (suc (suc (suc (suc (suc zero)))))))) f g h k e = rw (e 0 (omega arith)) refl
-agree (suc (suc (suc (suc (suc (suc (suc (suc (suc zero))))))))) f g h k e = rw (e 0 (omega arith)) refl
-agree (suc (suc (suc (suc (suc (suc (suc (suc (suc (suc zero)))))))))) f g h k e = refl
-agree (suc (suc (suc (suc (suc (suc (suc (suc (suc (suc (suc zero))))))))))) f g h k e = rw (e 0 (omega arith)) refl
-agree (suc (suc (suc (suc (suc (suc (suc (suc (suc (suc (suc (suc zero)))))))))))) f g h k e = rw (e 0 (omega arith), e 1 (omega arith)) refl
-agree (suc (suc (suc (suc (suc (suc (suc (suc (suc (suc (suc (suc (suc n))))))))))))) f g h k e = absurd (omega arith)
-
--- ---- records one behind the other
-
-pub data Recorded : List ℕ → List Call → Type 0 where
-  nothing : Recorded [] []
-  and : {at : ℕ} {w : List ℕ} {ws : List (List ℕ)} {bs : List ℕ} {cs : List Call} → Fine at w ws → Recorded bs cs
-      → Recorded (recordOf (w ∷ ws) ++ bs) (callOf (callNumber w) (λ j. number (getD ws j [])) ∷ cs)
-
--- a call's number is one of the twelve
-
-place-small : (k : ℕ) (w : List ℕ) (ns : List (List ℕ)) → 0 < k → placeFrom k w ns < k + length ns
-unfolding placeFrom
-place-small k w [] h = omega arith
-place-small k w (n ∷ ns) h = pick (same w n) (place-small (suc k) w ns (omega arith))
-  where
-    pick : (t : Bool) → placeFrom (suc k) w ns < suc k + length ns → cond t k (placeFrom (suc k) w ns) < k + suc (length ns)
-    pick true l = omega arith
-    pick false l = omega arith
-
-call-small : (w : List ℕ) → callNumber w ≤ 12
-unfolding callNumber
-call-small w = pick (ltb 0 (named w)) (isNumber w && knownCall (number w)) refl
-  where
-    pick : (s t : Bool) → isNumber w && knownCall (number w) ≡ t → cond s (named w) (cond t (number w) 0) ≤ 12
-    pick true t e = omega (arith, place-small 1 w names (omega arith))
-    pick false true e = both {s = isNumber w} itself (known? (number w)) .0 e .1 .1
-    pick false false e = omega arith
-
--- the record behind `front` is the call that the words mean
-module _ (front bs : List ℕ) {at : ℕ} {w : List ℕ} {ws : List (List ℕ)} (f : Fine at w ws) where
-  whole-list : List ℕ
-  whole-list = front ++ (recordOf (w ∷ ws) ++ bs)
-
-  number-is : wordIn whole-list (length front) ≡ callNumber w
-  unfolding whole-list recordOf
-  number-is = word-here front (arguments ws ++ bs) (callNumber w) (omega (arith, call-small w))
-
-  known-here : (1 ≤ callNumber w) × (callNumber w ≤ 12)
-  known-here = (omega (arith, f .known), call-small w)
-
-  argument-is : (j : ℕ) → j < argumentCount (callNumber w) → argumentAt whole-list (length front) j ≡ number (getD ws j [])
-  unfolding whole-list recordOf
-  argument-is j h =
-      let first = littleEndian (callNumber w) in
-      let i : length front + 4 + 4 * j ≡ length (front ++ first) + 4 * j = omega (arith, length-append front first) in
-      ap (λ (k : ℕ). wordIn (front ++ (first ++ (arguments ws ++ bs))) k) i
-      ∙ ap (λ (l : List ℕ). wordIn l (length (front ++ first) + 4 * j)) (sym (append-assoc front first (arguments ws ++ bs)))
-      ∙ number-here (front ++ first) bs ws j (f .numbers) (omega (arith, f .counted))
-
-  call-is : callAt whole-list (length front) ≡ callOf (callNumber w) (λ j. number (getD ws j []))
-  call-is =
-      ap (λ (n : ℕ). callOf n (argumentAt whole-list (length front))) number-is
-      ∙ agree (callNumber w) (argumentAt whole-list (length front)) (λ j. number (getD ws j [])) (known-here .0) (known-here .1) argument-is
-
-  next-is : nextRecord whole-list (length front) ≡ length (front ++ recordOf (w ∷ ws))
-  unfolding recordOf
-  next-is =
-      ap (λ (n : ℕ). length front + 4 + 4 * argumentCount n) number-is
-      ∙ omega (arith, f .counted, length-append front (recordOf (w ∷ ws)), length-append (littleEndian (callNumber w)) (arguments ws), arguments-length ws)
-
-  whole-is : wholeRecord whole-list (length front) ≡ true
-  unfolding whole-list
-  whole-is =
-      let least : 1 ≤ wordIn whole-list (length front) = rw number-is (known-here .0) in
-      let most : wordIn whole-list (length front) ≤ 12 = rw number-is (known-here .1) in
-      whole? whole-list (length front) .1 ((least, most), omega (arith, next-is, length-append front (recordOf (w ∷ ws) ++ bs), length-append front (recordOf (w ∷ ws)), length-append (recordOf (w ∷ ws)) bs))
-
-  one-more : (n : ℕ) (cs : List Call) → records n ((front ++ recordOf (w ∷ ws)) ++ bs) (length (front ++ recordOf (w ∷ ws))) ≡ some cs
-      → records (suc n) whole-list (length front) ≡ some (callOf (callNumber w) (λ j. number (getD ws j [])) ∷ cs)
-  unfolding records wholeRecord push whole-list
-  one-more n cs e =
-      let rest : records n whole-list (nextRecord whole-list (length front)) ≡ some cs =
-      ap (records n whole-list) next-is
-      ∙ ap (λ (l : List ℕ). records n l (length (front ++ recordOf (w ∷ ws)))) (sym (append-assoc front (recordOf (w ∷ ws)) bs))
-      ∙ e in
-      ap (λ (t : Bool). cond t (push (callAt whole-list (length front)) (records n whole-list (nextRecord whole-list (length front)))) none) whole-is
-      ∙ ap (push (callAt whole-list (length front))) rest
-      ∙ ap (λ (c : Call). some (c ∷ cs)) call-is
-
-reads : {bs : List ℕ} {cs : List Call} → Recorded bs cs → (front : List ℕ) → records (length cs) (front ++ bs) (length front) ≡ some cs
-unfolding records whole-list
-reads nothing front = rw (append-nil front, eq-eqb (length front) (length front) refl) refl
-reads (and {w = w} {ws = ws} {bs = bs} {cs = cs} f r) front = one-more front bs f (length cs) cs (reads r (front ++ recordOf (w ∷ ws)))
+use Rattle.assembly.proofs.Words.{four-bytes}
+use Rattle.assembly.proofs.Recorded.{Recorded, nothing, and, reads}
 
 -- ---- the lines behind N
 
@@ -145,7 +42,8 @@ impossible e = absurd (let z : _≡_ {A = ℕ} 0 1 = cc in omega arith)
 
 module _ (n count : ℕ) (before : List ℕ) (cs : List Call) (bytes : List ℕ) where
   with-line : (ws : List (List ℕ)) → 12 + length before ≤ 4096 → reason (12 + length before) ws ≡ 0
-      → (12 + length (before ++ recordOf ws) ≤ 4096 → Whole n (count + callsIn ws) (before ++ recordOf ws) cs bytes) → Whole n count before (callOn ws ++ cs) bytes
+      → (12 + length (before ++ recordOf ws) ≤ 4096 → Whole n (count + callsIn ws) (before ++ recordOf ws) cs bytes)
+      → Whole n count before (callOn ws ++ cs) bytes
   unfolding callOn callsIn recordOf
   with-line [] h z later =
       let e : before ++ [] ≡ before = append-nil before in
@@ -185,12 +83,19 @@ follow [] n k count before bytes h e =
 follow (l ∷ ls) n k count before bytes h e =
     pick (eqb (reason (12 + length before) (words l)) 0) refl e (follow ls n (suc k) (count + callsIn (words l)) (before ++ recordOf (words l)) bytes)
   where
-    pick : (t : Bool) → eqb (reason (12 + length before) (words l)) 0 ≡ t
-        → cond t (calls n (suc k) (count + callsIn (words l)) (before ++ recordOf (words l)) ls) (unread k (reason (12 + length before) (words l))) ≡ written bytes
-        → (12 + length (before ++ recordOf (words l)) ≤ 4096 → calls n (suc k) (count + callsIn (words l)) (before ++ recordOf (words l)) ls ≡ written bytes
-        → Whole n (count + callsIn (words l)) (before ++ recordOf (words l)) (callsOn ls) bytes)
+    why : ℕ
+    why = reason (12 + length before) (words l)
+
+    behind : List ℕ
+    behind = before ++ recordOf (words l)
+
+    rest : Result
+    rest = calls n (suc k) (count + callsIn (words l)) behind ls
+
+    pick : (t : Bool) → eqb why 0 ≡ t → cond t rest (unread k why) ≡ written bytes
+        → (12 + length behind ≤ 4096 → rest ≡ written bytes → Whole n (count + callsIn (words l)) behind (callsOn ls) bytes)
         → Whole n count before (callOn (words l) ++ callsOn ls) bytes
-    pick true z f later = with-line n count before (callsOn ls) bytes (words l) h (eqb-true (reason (12 + length before) (words l)) 0 z) (λ m. later m f)
+    pick true z f later = with-line n count before (callsOn ls) bytes (words l) h (eqb-true why 0 z) (λ m. later m f)
     pick false z f later = impossible f
 
 -- ---- the line that has N
@@ -250,7 +155,8 @@ is-script {n} {cs} {bytes} g =
     subst (λ (l : List ℕ). (wordIn l 0 ≡ n) × (script 6 l ≡ some cs)) (g .whole .all) (pages, calls-are)
 
 -- replay reads what a text assembles to: it has the pages and the calls that the text means
-pub read-back : (text bytes : List ℕ) → assembled text ≡ written bytes → (wordIn bytes 0 ≡ pagesMeant (lines text)) × (script 6 bytes ≡ some (callsMeant (lines text)))
+pub read-back : (text bytes : List ℕ) → assembled text ≡ written bytes
+    → (wordIn bytes 0 ≡ pagesMeant (lines text)) × (script 6 bytes ≡ some (callsMeant (lines text)))
 unfolding assembled
 read-back text bytes e = pick (ltb 65536 (length text)) e
   where

@@ -1,5 +1,5 @@
 -- A line's record, written number by number. Assumes nothing.
-use mathlib.Core.Path.{_≡_, refl, sym, ap, _∙_, subst}
+use mathlib.Core.Path.{_≡_, refl, sym, ap, _∙_}
 use mathlib.Core.Bool.{true}
 use mathlib.Core.List.{List, [], _∷_, _++_, append-assoc, append-nil}
 use Prim.Native.Nat.{ℕ, zero, suc, _+_, _*_, _≤_, _<_}
@@ -51,7 +51,8 @@ module _ (s before : List ℕ) (at : ℕ) where
     pub over : a ≡ e → Put before out at to (arguments (split s))
     unfolding arguments
     over q =
-        let none : p .done ≡ arguments (split s) = sym (append-nil (p .done)) ∙ ap (λ (ws : List (List ℕ)). p .done ++ arguments ws) (sym (n .none q)) ∙ p .whole in
+        let none : p .done ≡ arguments (split s) =
+        sym (append-nil (p .done)) ∙ ap (λ (ws : List (List ℕ)). p .done ++ arguments ws) (sym (n .none q)) ∙ p .whole in
         put-same none (p .put)
 
     pub is-number : a < e → isNumber (part s a e) ≡ true

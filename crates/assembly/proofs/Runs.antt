@@ -1,18 +1,16 @@
 -- The lines in turn. Assumes nothing.
 use mathlib.Core.Path.{_≡_, refl, sym, ap, _∙_}
-use mathlib.Core.Bool.{Bool, true, false, cond}
 use mathlib.Core.List.{List, [], _∷_, _++_}
-use Prim.Native.Nat.{ℕ, zero, suc, _+_, _*_, _≤_, _<_}
+use Prim.Native.Nat.{ℕ, _+_, _≤_}
 use native.Mathlib.Nat.{zero-add, suc-add, le-of-suc-le-suc, not-suc-le-zero}
 use native.Mathlib.Numerals.{add-one}
 use native.Mathlib.Omega.{arith}
-use lib.Dec.{eqb}
 use lib.ListN.{length, take, drop}
 use borrow.Author.Tests.{eq-eqb, ne-eqb}
 use Rattle.memory.specs.Words.{overwrite}
 use Rattle.script.specs.Lines.{Put}
 use Rattle.script.proofs.Puts.{put-then}
-use Rattle.assembly.specs.Text.{hash, before, lines, split, words}
+use Rattle.assembly.specs.Text.{before, lines, split, words}
 use Rattle.assembly.specs.Lines.{pagesOf, recordOf, callsIn, reason}
 use Rattle.assembly.specs.Assembled.{Result, written, unread, header, calls, begin}
 use Rattle.assembly.specs.Steps.{part, LineAt, LineRead}
@@ -40,7 +38,8 @@ module _ (text start : List ℕ) (n : ℕ) where
   pub reading : (i k : ℕ) → Reading text start start n (calls n k 0 [] (lines (drop i text))) i k 0 12
   reading i k = record { records = []; put = put-none start 12; left = refl }
 
-  module _ {goal : Result} {out after : List ℕ} {i k count at f e why more next : ℕ} (r : Reading text start out n goal i k count at) (l : LineAt text i f e) (d : LineRead (split (part text i f)) out after at why more next) where
+  module _ {goal : Result} {out after : List ℕ} {i k count at f e why more next : ℕ} (r : Reading text start out n goal i k count at)
+      (l : LineAt text i f e) (d : LineRead (split (part text i f)) out after at why more next) where
     line-words : words (part text i e) ≡ split (part text i f)
     line-words = ap split (l .read)
 
@@ -78,8 +77,8 @@ both-taken m [] ys h =
 both-taken [] (x ∷ xs) ys h = absurd (omega arith)
 both-taken (y ∷ m) (x ∷ xs) ys h = rw (suc-add (length xs) (length ys)) (ap (λ (l : List ℕ). x ∷ l) (both-taken m xs ys (omega arith)))
 
-pub headed : (text start : List ℕ) (n : ℕ) {goal : Result} {out after : List ℕ} {i k count at end : ℕ} → Reading text start out n goal i k count at → length text ≤ i
-    → at ≤ length start → Put out after 0 end (header n count) → written (take at after) ≡ goal
+pub headed : (text start : List ℕ) (n : ℕ) {goal : Result} {out after : List ℕ} {i k count at end : ℕ}
+    → Reading text start out n goal i k count at → length text ≤ i → at ≤ length start → Put out after 0 end (header n count) → written (take at after) ≡ goal
 unfolding calls lines
 headed text start n {goal} {out} {after} {i} {k} {count} {at} r h room p =
     let whole : take at after ≡ header n count ++ r .records =

@@ -2,7 +2,7 @@
 use mathlib.Core.Path.{_≡_, refl, sym, ap, _∙_}
 use mathlib.Core.Bool.{Bool, true, false, not, cond}
 use mathlib.Core.List.{List, [], _∷_}
-use Prim.Native.Nat.{ℕ, zero, suc, _+_, _-_, _≤_, _<_}
+use Prim.Native.Nat.{ℕ, suc, _+_, _-_, _≤_, _<_}
 use native.Mathlib.Omega.{arith}
 use lib.ListN.{length, getD, take, drop, length-drop}
 use lib.Seq.{drop-drop}
@@ -73,7 +73,8 @@ unfolding letters split
 none-left [] k = refl
 none-left (x ∷ xs) k = behind x xs (blank x) refl (none-left xs) k
 
-before-word : (x : ℕ) (xs : List ℕ) (t : Bool) → blank x ≡ t → (0 < letters xs → First xs (letters xs)) → 0 < letters (x ∷ xs) → First (x ∷ xs) (letters (x ∷ xs))
+before-word : (x : ℕ) (xs : List ℕ) (t : Bool) → blank x ≡ t → (0 < letters xs → First xs (letters xs))
+    → 0 < letters (x ∷ xs) → First (x ∷ xs) (letters (x ∷ xs))
 unfolding letters First Word
 before-word x xs true e h k = rw (kind true x xs e) (skip x xs e ∙ h (rw (kind true x xs e) at k))
 before-word x xs false e h k = rw (other true x xs e) (word-here x xs e)

@@ -23,7 +23,8 @@ mostText = 65536
 abbrev pub header : ℕ → ℕ → List ℕ
 header n count = littleEndian n ++ littleEndian count ++ littleEndian headerBytes
 
--- "Every further line that has words is a call": the lines from number k on, behind the records of the calls so far. "The first line that can't be read decides."
+-- "Every further line that has words is a call": the lines from number k on, behind the records of the calls so far.
+-- "The first line that can't be read decides."
 unfoldable pub calls : ℕ → ℕ → ℕ → List ℕ → List (List ℕ) → Result
 calls n k count records [] = written (header n count ++ records)
 calls n k count records (l ∷ ls) =

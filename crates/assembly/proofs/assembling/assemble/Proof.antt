@@ -1,50 +1,35 @@
-use Rattle.assembly.proofs.Answers.{long, answered}
-use lib.ListN.{length, length-take}
-use mathlib.Core.Path.{_≡_}
+-- `assembly::assembling::assemble` meets its contract. The script is copied only where there is one. Assumes nothing.
 use native.Mathlib.Omega.{arith}
+use lib.ListN.{length-take}
 use borrow.Author.Needs.{needs}
+use Rattle.assembly.proofs.Answers.{long, answered}
 use Rattle.assembly.proofs.assembling.assemble.Statement.{statement}
 use Rattle.assembly.proofs.assembling.assemble.Tie as tie
-use Rattle.assembly.proofs.assembling.assemble.Reads as reads
-use Rattle.assembly.proofs.assembling.assemble.Lts as lts
-use Rattle.assembly.proofs.buffers.script_buffer.Reads as script-buffer-reads
-use Rattle.assembly.proofs.assembling.read_text.Reads as read-text-reads
-use Rattle.assembly.proofs.assembling.script_length.Reads as script-length-reads
-use Rattle.script.proofs.put.Reads as put-reads
 
--- src/assembling.rt:136:9
 returns : tie.Need-returns
 returns c = long (c .before .before .args .text .now) (c .before .before .args .out .now) (c .if1 .taken)
 
--- src/assembling.rt:138:21
 script-buffer-requires : tie.Need-script-buffer-requires
 script-buffer-requires c κs = search needs
 
--- src/assembling.rt:139:29
 slice-aggregate-read-text : tie.Need-slice-aggregate-read-text
 slice-aggregate-read-text c = search needs
 
--- src/assembling.rt:139:9
 read-text-requires : tie.Need-read-text-requires
 read-text-requires c κs = search needs
 
--- src/assembling.rt:140:9
 script-length-requires : tie.Need-script-length-requires
 script-length-requires c κs = search needs
 
--- src/assembling.rt:141:17
 array-share-prefix-bytes : tie.Need-array-share-prefix-bytes
 array-share-prefix-bytes c = search needs
 
--- src/assembling.rt:141:17
 slice-aggregate-put : tie.Need-slice-aggregate-put
 slice-aggregate-put c = simp length-take (omega arith)
 
--- src/assembling.rt:141:5
 put-requires : tie.Need-put-requires
 put-requires c κs = simp length-take (omega arith)
 
--- src/assembling.rt:130:1
 returns-2 : tie.Need-returns-2
 returns-2 c =
     let s = c .before .before .before .before .before .before .before .before .before .before .args in

@@ -1,98 +1,74 @@
-use Rattle.assembly.proofs.Pages.{no-word, more-words, no-number, too-small, too-large, is-pages}
-use borrow.Author.Tests.{not-true, not-false}
+-- `assembly::assembling::pages_of` meets its contract. Each test is one of the definition. Assumes nothing.
 use mathlib.Core.Path.{sym, _∙_}
 use native.Mathlib.Omega.{arith}
+use borrow.Author.Tests.{not-true, not-false}
 use borrow.Author.Needs.{needs}
+use Rattle.assembly.proofs.Pages.{no-word, more-words, no-number, too-small, too-large, is-pages}
 use Rattle.assembly.proofs.assembling.pages_of.Statement.{statement}
 use Rattle.assembly.proofs.assembling.pages_of.Tie as tie
-use Rattle.assembly.proofs.assembling.pages_of.Reads as reads
-use Rattle.assembly.proofs.assembling.pages_of.Lts as lts
-use Rattle.assembly.proofs.numbers.is_number.Reads as is-number-reads
-use Rattle.assembly.proofs.numbers.number.Reads as number-reads
-use Rattle.assembly.proofs.parts.count_words.Reads as count-words-reads
-use Rattle.assembly.proofs.parts.next_word.Reads as next-word-reads
 
--- src/assembling.rt:26:9
 next-word-requires : tie.Need-next-word-requires
 next-word-requires c κs = search needs
 
--- src/assembling.rt:30:9
 returns : tie.Need-returns
 returns c = no-word (c .before .before .before .args .s .now) (c .before .next-word .ensures) (c .if1 .taken)
 
--- src/assembling.rt:32:20
 sub-count-words : tie.Need-sub-count-words
 sub-count-words c = search needs
 
--- src/assembling.rt:32:20
 part-count-words-start : tie.Need-part-count-words-start
 part-count-words-start c = search needs
 
--- src/assembling.rt:32:20
 part-count-words-end : tie.Need-part-count-words-end
 part-count-words-end c = search needs
 
--- src/assembling.rt:32:8
 count-words-requires : tie.Need-count-words-requires
 count-words-requires c κs = search needs
 
--- src/assembling.rt:33:9
 returns-2 : tie.Need-returns-2
 returns-2 c =
     let n = c .before .before .before .before .next-word .ensures in
     more-words (c .before .before .before .before .before .before .args .s .now) n (omega (arith, n .order, c .before .before .before .if1 .left)) _ (c .before .count-words .ensures .0) (c .if2 .taken)
 
--- src/assembling.rt:35:19
 sub-is-number : tie.Need-sub-is-number
 sub-is-number c = search needs
 
--- src/assembling.rt:35:19
 part-is-number-start : tie.Need-part-is-number-start
 part-is-number-start c = search needs
 
--- src/assembling.rt:35:19
 part-is-number-end : tie.Need-part-is-number-end
 part-is-number-end c = search needs
 
--- src/assembling.rt:35:9
 is-number-requires : tie.Need-is-number-requires
 is-number-requires c κs = search needs
 
--- src/assembling.rt:36:9
 returns-3 : tie.Need-returns-3
 returns-3 c =
     let n = c .before .before .before .before .before .before .before .next-word .ensures in
     no-number (c .before .before .before .before .before .before .before .before .before .args .s .now) n (omega (arith, n .order, c .before .before .before .before .before .before .if1 .left)) _ (c .before .before .before .before .count-words .ensures .0) (c .before .before .before .if2 .left) (sym (c .before .is-number .ensures) ∙ not-true _ (c .if3 .taken))
 
--- src/assembling.rt:38:20
 sub-number : tie.Need-sub-number
 sub-number c = search needs
 
--- src/assembling.rt:38:20
 part-number-start : tie.Need-part-number-start
 part-number-start c = search needs
 
--- src/assembling.rt:38:20
 part-number-end : tie.Need-part-number-end
 part-number-end c = search needs
 
--- src/assembling.rt:38:9
 number-requires : tie.Need-number-requires
 number-requires c κs = sym (c .before .before .is-number .ensures) ∙ not-false _ (c .before .if3 .left)
 
--- src/assembling.rt:40:9
 returns-4 : tie.Need-returns-4
 returns-4 c =
     let n = c .before .before .before .before .before .before .before .before .before .before .next-word .ensures in
     too-small (c .before .before .before .before .before .before .before .before .before .before .before .before .args .s .now) n (omega (arith, n .order, c .before .before .before .before .before .before .before .before .before .if1 .left)) _ (c .before .before .before .before .before .before .before .count-words .ensures .0) (c .before .before .before .before .before .before .if2 .left) (sym (c .before .before .before .before .is-number .ensures) ∙ not-false _ (c .before .before .before .if3 .left)) _ (c .before .number .ensures) (c .if4 .taken)
 
--- src/assembling.rt:43:9
 returns-5 : tie.Need-returns-5
 returns-5 c =
     let n = c .before .before .before .before .before .before .before .before .before .before .before .next-word .ensures in
     too-large (c .before .before .before .before .before .before .before .before .before .before .before .before .before .args .s .now) n (omega (arith, n .order, c .before .before .before .before .before .before .before .before .before .before .if1 .left)) _ (c .before .before .before .before .before .before .before .before .count-words .ensures .0) (c .before .before .before .before .before .before .before .if2 .left) (sym (c .before .before .before .before .before .is-number .ensures) ∙ not-false _ (c .before .before .before .before .if3 .left)) _ (c .before .before .number .ensures) (c .before .if4 .left) (c .if5 .taken)
 
--- src/assembling.rt:23:1
 returns-6 : tie.Need-returns-6
 returns-6 c =
     let n = c .before .before .before .before .before .before .before .before .before .before .before .next-word .ensures in

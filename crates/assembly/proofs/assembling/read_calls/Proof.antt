@@ -1,19 +1,15 @@
-use Rattle.assembly.proofs.Runs.{Reading, reading, stops, goes-on, headed}
+-- `assembly::assembling::read_calls` meets its contract. The records so far and the lines left make the whole. The measure is what is left of the text. Assumes nothing.
+use mathlib.Core.Path.{_≡_}
+use mathlib.Core.List.{[]}
+use Prim.Native.Nat.{_+_, _-_, _≤_}
+use native.Mathlib.Omega.{arith}
+use lib.ListN.{length, drop}
+use borrow.Author.Needs.{needs}
 use Rattle.assembly.specs.Assembled.{calls}
 use Rattle.assembly.specs.Text.{lines}
-use lib.ListN.{length, drop}
-use Prim.Native.Nat.{_+_, _-_, _≤_}
-use mathlib.Core.List.{[]}
-use mathlib.Core.Path.{_≡_}
-use native.Mathlib.Omega.{arith}
-use borrow.Author.Needs.{needs}
+use Rattle.assembly.proofs.Runs.{Reading, reading, stops, goes-on, headed}
 use Rattle.assembly.proofs.assembling.read_calls.Statement.{statement}
 use Rattle.assembly.proofs.assembling.read_calls.Tie as tie
-use Rattle.assembly.proofs.assembling.read_calls.Reads as reads
-use Rattle.assembly.proofs.assembling.read_calls.Lts as lts
-use Rattle.assembly.proofs.assembling.put_header.Reads as put-header-reads
-use Rattle.assembly.proofs.calls.read_line.Reads as read-line-reads
-use Rattle.assembly.proofs.parts.line_at.Reads as line-at-reads
 
 abbrev Inv-loop : tie.InvT-loop
 Inv-loop text first line n out₀ i₀ k₀ count₀ at₀ out i k count at = Reading text out₀ out n (calls n line 0 [] (lines (drop first text))) i k count at × (i ≤ length text + 1) × (k ≤ i + 1) × (count ≤ i) × (at ≤ 4096) × (length out ≡ length out₀)
@@ -21,59 +17,46 @@ Inv-loop text first line n out₀ i₀ k₀ count₀ at₀ out i k count at = Re
 abbrev μ-loop : tie.MeasureT-loop
 μ-loop text first line n out₀ i₀ k₀ count₀ at₀ out i k count at = length text + 1 - i
 
--- src/assembling.rt:68:5
 loop-holds : tie.Need-loop-holds Inv-loop μ-loop
 loop-holds c =
     let s = c .before .before in
     (reading (s .args .text .now) (s .args .out .now) (s .args .n) (s .args .first) (s .args .line), search needs, search needs, search needs, search needs, search needs)
 
--- src/assembling.rt:69:13
 line-at-requires : tie.Need-line-at-requires Inv-loop μ-loop
 line-at-requires c κs = search needs
 
--- src/assembling.rt:72:27
 sub-read-line : tie.Need-sub-read-line Inv-loop μ-loop
 sub-read-line c = search needs
 
--- src/assembling.rt:72:27
 part-read-line-start : tie.Need-part-read-line-start Inv-loop μ-loop
 part-read-line-start c = search needs
 
--- src/assembling.rt:72:27
 part-read-line-end : tie.Need-part-read-line-end Inv-loop μ-loop
 part-read-line-end c = search needs
 
--- src/assembling.rt:72:13
 read-line-requires : tie.Need-read-line-requires Inv-loop μ-loop
 read-line-requires c κs = search needs
 
--- src/assembling.rt:75:13
 same-length : tie.Need-same-length Inv-loop μ-loop
 same-length c = search needs
 
--- src/assembling.rt:75:13
 returns : tie.Need-returns Inv-loop μ-loop
 returns c =
     let s = c .before .before .before .before .before .before .before .before .before .before .before .args in
     (stops (s .text .now) (s .out .now) (s .n) (c .before .before .before .before .before .before .before .before .loop .inv .0) (c .before .before .before .before .before .before .line-at .ensures) (c .before .before .before .read-line .ensures) (c .if1 .taken), search needs)
 
--- src/assembling.rt:78:9
 add-count : tie.Need-add-count Inv-loop μ-loop
 add-count c = omega (arith, c .before .before .before .before .read-line .ensures .few)
 
--- src/assembling.rt:79:9
 add-k : tie.Need-add-k Inv-loop μ-loop
 add-k c = search needs
 
--- src/assembling.rt:80:13
 add-i : tie.Need-add-i Inv-loop μ-loop
 add-i c = search needs
 
--- src/assembling.rt:68:5
 loop-less : tie.Need-loop-less Inv-loop μ-loop
 loop-less c = omega (arith, c .before .before .before .before .before .before .before .line-at .ensures .after, c .before .before .before .before .before .before .before .line-at .ensures .order, c .before .before .before .before .before .before .before .line-at .ensures .within)
 
--- src/assembling.rt:68:5
 loop-again : tie.Need-loop-again Inv-loop μ-loop
 loop-again c =
     let s = c .before .before .before .before .before .before .before .before .before .before .before .before .args in
@@ -87,15 +70,12 @@ loop-again c =
       search needs,
     )
 
--- src/assembling.rt:82:5
 put-header-requires : tie.Need-put-header-requires Inv-loop μ-loop
 put-header-requires c κs = search needs
 
--- src/assembling.rt:59:1
 same-length-2 : tie.Need-same-length-2 Inv-loop μ-loop
 same-length-2 c = search needs
 
--- src/assembling.rt:59:1
 returns-2 : tie.Need-returns-2 Inv-loop μ-loop
 returns-2 c =
     let s = c .before .before .before .before .before .before .before .before in

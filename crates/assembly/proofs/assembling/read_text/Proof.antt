@@ -1,19 +1,14 @@
-use Rattle.assembly.proofs.Runs.{blank-line, no-pages, pages, no-lines}
+-- `assembly::assembling::read_text` meets its contract. The lines left come to what all of them come to. The measure is what is left of the text. Assumes nothing.
+use mathlib.Core.Path.{_≡_, refl, sym, _∙_}
+use Prim.Native.Nat.{_+_, _-_, _≤_}
+use native.Mathlib.Omega.{arith}
+use lib.ListN.{length, drop}
+use borrow.Author.Needs.{needs}
 use Rattle.assembly.specs.Assembled.{begin}
 use Rattle.assembly.specs.Text.{lines}
-use lib.ListN.{length, drop}
-use Prim.Native.Nat.{_+_, _-_, _≤_}
-use mathlib.Core.Path.{_≡_, refl, sym, _∙_}
-use native.Mathlib.Omega.{arith}
-use borrow.Author.Needs.{needs}
+use Rattle.assembly.proofs.Runs.{blank-line, no-pages, pages, no-lines}
 use Rattle.assembly.proofs.assembling.read_text.Statement.{statement}
 use Rattle.assembly.proofs.assembling.read_text.Tie as tie
-use Rattle.assembly.proofs.assembling.read_text.Reads as reads
-use Rattle.assembly.proofs.assembling.read_text.Lts as lts
-use Rattle.assembly.proofs.assembling.pages_of.Reads as pages-of-reads
-use Rattle.assembly.proofs.assembling.read_calls.Reads as read-calls-reads
-use Rattle.assembly.proofs.parts.count_words.Reads as count-words-reads
-use Rattle.assembly.proofs.parts.line_at.Reads as line-at-reads
 
 abbrev Inv-loop : tie.InvT-loop
 Inv-loop text out₀ i₀ k₀ out i k = (begin k (lines (drop i text)) ≡ begin 1 (lines text)) × (i ≤ length text + 1) × (k ≤ i + 1) × (length out ≡ length out₀)
@@ -21,92 +16,71 @@ Inv-loop text out₀ i₀ k₀ out i k = (begin k (lines (drop i text)) ≡ begi
 abbrev μ-loop : tie.MeasureT-loop
 μ-loop text out₀ i₀ k₀ out i k = length text + 1 - i
 
--- src/assembling.rt:94:5
 loop-holds : tie.Need-loop-holds Inv-loop μ-loop
 loop-holds c = (refl, search needs, search needs, search needs)
 
--- src/assembling.rt:95:13
 line-at-requires : tie.Need-line-at-requires Inv-loop μ-loop
 line-at-requires c κs = search needs
 
--- src/assembling.rt:98:24
 sub-count-words : tie.Need-sub-count-words Inv-loop μ-loop
 sub-count-words c = search needs
 
--- src/assembling.rt:98:24
 part-count-words-start : tie.Need-part-count-words-start Inv-loop μ-loop
 part-count-words-start c = search needs
 
--- src/assembling.rt:98:24
 part-count-words-end : tie.Need-part-count-words-end Inv-loop μ-loop
 part-count-words-end c = search needs
 
--- src/assembling.rt:98:12
 count-words-requires : tie.Need-count-words-requires Inv-loop μ-loop
 count-words-requires c κs = search needs
 
--- src/assembling.rt:99:30
 sub-pages-of : tie.Need-sub-pages-of Inv-loop μ-loop
 sub-pages-of c = search needs
 
--- src/assembling.rt:99:30
 part-pages-of-start : tie.Need-part-pages-of-start Inv-loop μ-loop
 part-pages-of-start c = search needs
 
--- src/assembling.rt:99:30
 part-pages-of-end : tie.Need-part-pages-of-end Inv-loop μ-loop
 part-pages-of-end c = search needs
 
--- src/assembling.rt:99:17
 pages-of-requires : tie.Need-pages-of-requires Inv-loop μ-loop
 pages-of-requires c κs = search needs
 
--- src/assembling.rt:101:17
 same-length : tie.Need-same-length Inv-loop μ-loop
 same-length c = search needs
 
--- src/assembling.rt:101:17
 returns : tie.Need-returns Inv-loop μ-loop
 returns c =
     let n = c .before .before .before .before .count-words in
     (no-pages (c .before .before .before .before .before .before .before .before .before .before .before .args .text .now) _ (c .before .before .before .before .before .before .line-at .ensures) _ (c .before .pages-of .ensures) (λ q. c .before .before .before .if1 .taken (n .ensures .0 ∙ q)) (c .if2 .taken) ∙ c .before .before .before .before .before .before .before .before .loop .inv .0, search needs)
 
--- src/assembling.rt:103:37
 add-read-calls : tie.Need-add-read-calls Inv-loop μ-loop
 add-read-calls c = search needs
 
--- src/assembling.rt:103:44
 add-read-calls-2 : tie.Need-add-read-calls-2 Inv-loop μ-loop
 add-read-calls-2 c = search needs
 
--- src/assembling.rt:103:13
 read-calls-requires : tie.Need-read-calls-requires Inv-loop μ-loop
 read-calls-requires c κs = let l = c .before .before .before .before .before .before .before .line-at .ensures in ((c .before .before .before .before .before .before .before .before .before .before .before .before .pre .0, omega (arith, l .within), omega (arith, l .after, l .order)), search needs)
 
--- src/assembling.rt:103:13
 same-length-2 : tie.Need-same-length-2 Inv-loop μ-loop
 same-length-2 c = search needs
 
--- src/assembling.rt:103:13
 returns-2 : tie.Need-returns-2 Inv-loop μ-loop
 returns-2 c =
     let n = c .before .before .before .before .before .before .before .before .count-words in
     let r = c .before .before .read-calls .ensures in
     (r .0 ∙ pages (c .before .before .before .before .before .before .before .before .before .before .before .before .before .before .before .args .text .now) _ (c .before .before .before .before .before .before .before .before .before .before .line-at .ensures) _ (c .before .before .before .before .before .pages-of .ensures) (λ q. c .before .before .before .before .before .before .before .if1 .taken (n .ensures .0 ∙ q)) (c .before .before .before .before .if2 .left) ∙ c .before .before .before .before .before .before .before .before .before .before .before .before .loop .inv .0, r .1)
 
--- src/assembling.rt:105:9
 add-k : tie.Need-add-k Inv-loop μ-loop
 add-k c = search needs
 
--- src/assembling.rt:106:13
 add-i : tie.Need-add-i Inv-loop μ-loop
 add-i c = search needs
 
--- src/assembling.rt:94:5
 loop-less : tie.Need-loop-less Inv-loop μ-loop
 loop-less c = let l = c .before .before .before .line-at .ensures in omega (arith, l .after, l .order, l .within)
 
--- src/assembling.rt:94:5
 loop-again : tie.Need-loop-again Inv-loop μ-loop
 loop-again c =
     let l = c .before .before .before .line-at .ensures in (
@@ -116,11 +90,9 @@ loop-again c =
       search needs,
     )
 
--- src/assembling.rt:87:1
 same-length-3 : tie.Need-same-length-3 Inv-loop μ-loop
 same-length-3 c = search needs
 
--- src/assembling.rt:87:1
 returns-3 : tie.Need-returns-3 Inv-loop μ-loop
 returns-3 c = (no-lines (c .before .before .before .before .args .text .now) (c .before .loop .i) (c .before .loop .k) (omega arith) ∙ c .before .loop .inv .0, search needs)
 

@@ -1,39 +1,30 @@
-use Rattle.assembly.proofs.Records.{arguments-length, record-put}
-use Rattle.assembly.proofs.Reasons.{fine}
-use Rattle.assembly.specs.Text.{split}
-use Rattle.script.proofs.Puts.{put-same}
-use Rattle.rules.specs.Bytes.{littleEndian}
+-- `assembly::calls::put_record` meets its contract. The call, and behind it its arguments. Assumes nothing.
 use mathlib.Core.Path.{ap}
 use native.Mathlib.Omega.{arith}
 use borrow.Author.Needs.{needs}
+use Rattle.rules.specs.Bytes.{littleEndian}
+use Rattle.script.proofs.Puts.{put-same}
+use Rattle.assembly.specs.Text.{split}
+use Rattle.assembly.proofs.Records.{arguments-length, record-put}
+use Rattle.assembly.proofs.Reasons.{fine}
 use Rattle.assembly.proofs.calls.put_record.Statement.{statement}
 use Rattle.assembly.proofs.calls.put_record.Tie as tie
-use Rattle.assembly.proofs.calls.put_record.Reads as reads
-use Rattle.assembly.proofs.calls.put_record.Lts as lts
-use Rattle.assembly.proofs.calls.put_numbers.Reads as put-numbers-reads
-use Rattle.assembly.proofs.calls.put_word.Reads as put-word-reads
-use Rattle.assembly.proofs.names.call_number.Reads as call-number-reads
 
--- src/calls.rt:85:9
 call-number-requires : tie.Need-call-number-requires
 call-number-requires c κs = search needs
 
--- src/calls.rt:86:9
 put-word-requires : tie.Need-put-word-requires
 put-word-requires c κs = let s = c .before .before .before .before .before in omega (arith, s .pre .1, fine (s .args .at) (s .args .w .now) (split (s .args .s .now)) (s .pre .0) .room)
 
--- src/calls.rt:87:5
 put-numbers-requires : tie.Need-put-numbers-requires
 put-numbers-requires c κs =
     let s = c .before .before .before .before .before .before .before .before .before in
     let h = fine (s .args .at) (s .args .w .now) (split (s .args .s .now)) (s .pre .0) in
     (h .numbers, omega (arith, s .pre .1, h .room, c .before .before .before .put-word .ensures .next))
 
--- src/calls.rt:80:1
 same-length : tie.Need-same-length
 same-length c = search needs
 
--- src/calls.rt:80:1
 returns : tie.Need-returns
 returns c =
     let s = c .before .before .before .before .before .before .before .before .before .before .before .before in

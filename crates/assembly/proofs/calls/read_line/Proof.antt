@@ -1,91 +1,68 @@
-use Rattle.assembly.proofs.Records.{skipped, refused, taken}
+-- `assembly::calls::read_line` meets its contract. No word, a reason or a record. Assumes nothing.
 use mathlib.Core.Path.{sym, _∙_}
 use native.Mathlib.Omega.{arith}
 use borrow.Author.Needs.{needs}
+use Rattle.assembly.proofs.Records.{skipped, refused, taken}
 use Rattle.assembly.proofs.calls.read_line.Statement.{statement}
 use Rattle.assembly.proofs.calls.read_line.Tie as tie
-use Rattle.assembly.proofs.calls.read_line.Reads as reads
-use Rattle.assembly.proofs.calls.read_line.Lts as lts
-use Rattle.assembly.proofs.calls.put_record.Reads as put-record-reads
-use Rattle.assembly.proofs.calls.reason.Reads as reason-reads
-use Rattle.assembly.proofs.parts.next_word.Reads as next-word-reads
 
--- src/calls.rt:103:9
 next-word-requires : tie.Need-next-word-requires
 next-word-requires c κs = search needs
 
--- src/calls.rt:107:9
 returns : tie.Need-returns
 returns c = let s = c .before .before .before .before in skipped (s .args .s .now) (s .args .out .now) (s .args .at) _ _ (c .before .next-word .ensures) (s .pre .0) (c .if1 .taken)
 
--- src/calls.rt:113:26
 sub-reason : tie.Need-sub-reason
 sub-reason c = search needs
 
--- src/calls.rt:113:26
 part-reason-start : tie.Need-part-reason-start
 part-reason-start c = search needs
 
--- src/calls.rt:113:26
 part-reason-end : tie.Need-part-reason-end
 part-reason-end c = search needs
 
--- src/calls.rt:113:36
 sub-reason-2 : tie.Need-sub-reason-2
 sub-reason-2 c = search needs
 
--- src/calls.rt:113:36
 part-reason-start-2 : tie.Need-part-reason-start-2
 part-reason-start-2 c = search needs
 
--- src/calls.rt:113:36
 part-reason-end-2 : tie.Need-part-reason-end-2
 part-reason-end-2 c = search needs
 
--- src/calls.rt:113:9
 reason-requires : tie.Need-reason-requires
 reason-requires c κs = search needs
 
--- src/calls.rt:115:9
 returns-2 : tie.Need-returns-2
 returns-2 c =
     let s = c .before .before .before .before .before .before .before .before in
     let n = c .before .before .before .before .before .next-word .ensures in
     refused (s .args .s .now) (s .args .out .now) (s .args .at) _ _ n (s .pre .0) _ (omega (arith, n .order, c .before .before .before .before .if1 .left)) (c .before .reason .ensures) (c .if2 .taken)
 
--- src/calls.rt:121:36
 sub-put-record : tie.Need-sub-put-record
 sub-put-record c = search needs
 
--- src/calls.rt:121:36
 part-put-record-start : tie.Need-part-put-record-start
 part-put-record-start c = search needs
 
--- src/calls.rt:121:36
 part-put-record-end : tie.Need-part-put-record-end
 part-put-record-end c = search needs
 
--- src/calls.rt:121:46
 sub-put-record-2 : tie.Need-sub-put-record-2
 sub-put-record-2 c = search needs
 
--- src/calls.rt:121:46
 part-put-record-start-2 : tie.Need-part-put-record-start-2
 part-put-record-start-2 c = search needs
 
--- src/calls.rt:121:46
 part-put-record-end-2 : tie.Need-part-put-record-end-2
 part-put-record-end-2 c = search needs
 
--- src/calls.rt:121:9
 put-record-requires : tie.Need-put-record-requires
 put-record-requires c κs = search needs
 
--- src/calls.rt:98:1
 same-length : tie.Need-same-length
 same-length c = search needs
 
--- src/calls.rt:98:1
 returns-3 : tie.Need-returns-3
 returns-3 c =
     let s = c .before .before .before .before .before .before .before .before .before .before .before .before .before .before in

@@ -1,82 +1,63 @@
-use Rattle.assembly.proofs.Reasons.{unknown, few, many, others, long, none}
-use Rattle.assembly.specs.Text.{split}
-use Rattle.rules.specs.Replay.{argumentCount}
-use lib.ListN.{length}
-use Prim.Native.Nat.{_≤_}
+-- `assembly::calls::reason` meets its contract. The tests are made in the order of the definition. Assumes nothing.
+use mathlib.Core.Path.{refl, sym, _∙_}
 use native.Mathlib.Omega.{arith}
+use lib.ListN.{length}
 use borrow.Author.Tests.{not-true, not-false}
-use mathlib.Core.Path.{_≡_, refl, sym, _∙_}
 use borrow.Author.Needs.{needs}
+use Rattle.rules.specs.Replay.{argumentCount}
+use Rattle.assembly.specs.Text.{split}
+use Rattle.assembly.proofs.Reasons.{unknown, few, many, others, long, none}
 use Rattle.assembly.proofs.calls.reason.Statement.{statement}
 use Rattle.assembly.proofs.calls.reason.Tie as tie
-use Rattle.assembly.proofs.calls.reason.Reads as reads
-use Rattle.assembly.proofs.calls.reason.Lts as lts
-use Rattle.assembly.proofs.names.call_number.Reads as call-number-reads
-use Rattle.assembly.proofs.numbers.all_numbers.Reads as all-numbers-reads
-use Rattle.assembly.proofs.parts.count_words.Reads as count-words-reads
-use Rattle.script.proofs.argument_count.Reads as argument-count-reads
 
--- src/calls.rt:57:9
 call-number-requires : tie.Need-call-number-requires
 call-number-requires c κs = search needs
 
--- src/calls.rt:59:9
 returns : tie.Need-returns
 returns c =
     let s = c .before .before .before .before .args in
     unknown (s .at) (s .w .now) (split (s .s .now)) (c .before .call-number .result) (argumentCount (c .before .call-number .result)) (length (split (s .s .now))) (c .before .call-number .ensures .0) refl refl (c .if1 .taken)
 
--- src/calls.rt:61:9
 argument-count-requires : tie.Need-argument-count-requires
 argument-count-requires c κs = (omega (arith, c .if1 .left), c .before .call-number .ensures .1)
 
--- src/calls.rt:62:9
 count-words-requires : tie.Need-count-words-requires
 count-words-requires c κs = search needs
 
--- src/calls.rt:64:9
 returns-2 : tie.Need-returns-2
 returns-2 c =
     let s = c .before .before .before .before .before .before .before .args in
     few (s .at) (s .w .now) (split (s .s .now)) _ _ _ (c .before .before .before .before .call-number .ensures .0) (c .before .before .argument-count .ensures .0) (c .before .count-words .ensures .0) (c .before .before .before .if1 .left) (c .if2 .taken)
 
--- src/calls.rt:67:9
 returns-3 : tie.Need-returns-3
 returns-3 c =
     let s = c .before .before .before .before .before .before .before .before .args in
     many (s .at) (s .w .now) (split (s .s .now)) _ _ _ (c .before .before .before .before .before .call-number .ensures .0) (c .before .before .before .argument-count .ensures .0) (c .before .before .count-words .ensures .0) (c .before .before .before .before .if1 .left) (c .if3 .taken)
 
--- src/calls.rt:69:9
 all-numbers-requires : tie.Need-all-numbers-requires
 all-numbers-requires c κs = search needs
 
--- src/calls.rt:70:9
 returns-4 : tie.Need-returns-4
 returns-4 c =
     let s = c .before .before .before .before .before .before .before .before .before .before .args in
     let others-here = sym (c .before .all-numbers .ensures) ∙ not-true _ (c .if4 .taken) in
     others (s .at) (s .w .now) (split (s .s .now)) _ _ _ (c .before .before .before .before .before .before .before .call-number .ensures .0) (c .before .before .before .before .before .argument-count .ensures .0) (c .before .before .before .before .count-words .ensures .0) (c .before .before .before .before .before .before .if1 .left) (c .before .before .before .if2 .left) (c .before .before .if3 .left) others-here
 
--- src/calls.rt:72:15
 add-if5 : tie.Need-add-if5
 add-if5 c = search needs
 
--- src/calls.rt:72:24
 mul-if5 : tie.Need-mul-if5
 mul-if5 c = omega (arith, c .before .before .before .before .before .argument-count .ensures .1, c .before .before .if3 .left)
 
--- src/calls.rt:72:15
 add-if5-2 : tie.Need-add-if5-2
 add-if5-2 c = omega (arith, c .before .before .before .before .before .argument-count .ensures .1, c .before .before .if3 .left)
 
--- src/calls.rt:73:9
 returns-5 : tie.Need-returns-5
 returns-5 c =
     let s = c .before .before .before .before .before .before .before .before .before .before .before .args in
     let numbers = sym (c .before .before .all-numbers .ensures) ∙ not-false _ (c .before .if4 .left) in
     long (s .at) (s .w .now) (split (s .s .now)) _ _ _ (c .before .before .before .before .before .before .before .before .call-number .ensures .0) (c .before .before .before .before .before .before .argument-count .ensures .0) (c .before .before .before .before .before .count-words .ensures .0) (c .before .before .before .before .before .before .before .if1 .left) (c .before .before .before .before .if2 .left) (c .before .before .before .if3 .left) numbers (c .if5 .taken)
 
--- src/calls.rt:53:1
 returns-6 : tie.Need-returns-6
 returns-6 c =
     let s = c .before .before .before .before .before .before .before .before .before .before .before .args in

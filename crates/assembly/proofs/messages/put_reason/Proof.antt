@@ -1,136 +1,105 @@
-use Rattle.assembly.proofs.Records.{put-none}
-use Rattle.assembly.specs.Messages.{because}
-use Rattle.script.proofs.Puts.{put-same}
-use borrow.Author.Tests.{ne-eqb}
-use mathlib.Core.Path.{refl, sym, ap}
+-- `assembly::messages::put_reason` meets its contract. Each text is that of its number. Assumes nothing.
+use mathlib.Core.Path.{sym, ap}
 use native.Mathlib.Omega.{arith}
+use borrow.Author.Tests.{ne-eqb}
 use borrow.Author.Needs.{needs}
+use Rattle.script.proofs.Puts.{put-same}
+use Rattle.assembly.specs.Messages.{because}
+use Rattle.assembly.proofs.Records.{put-none}
 use Rattle.assembly.proofs.messages.put_reason.Statement.{statement}
 use Rattle.assembly.proofs.messages.put_reason.Tie as tie
-use Rattle.assembly.proofs.messages.put_reason.Reads as reads
-use Rattle.assembly.proofs.messages.put_reason.Lts as lts
-use Rattle.script.proofs.put.Reads as put-reads
 
--- src/messages.rt:19:29
 slice-aggregate-put : tie.Need-slice-aggregate-put
 slice-aggregate-put c = search needs
 
--- src/messages.rt:19:9
 put-requires : tie.Need-put-requires
 put-requires c κs = search needs
 
--- src/messages.rt:19:9
 same-length : tie.Need-same-length
 same-length c = search needs
 
--- src/messages.rt:19:9
 returns : tie.Need-returns
 unfolding because
 returns c = let p = c .before .before .put .ensures in (put-same (ap because (sym (c .before .before .before .before .before .if1 .taken))) p, omega (arith, p .next))
 
--- src/messages.rt:22:29
 slice-aggregate-put-2 : tie.Need-slice-aggregate-put-2
 slice-aggregate-put-2 c = search needs
 
--- src/messages.rt:22:9
 put-requires-2 : tie.Need-put-requires-2
 put-requires-2 c κs = search needs
 
--- src/messages.rt:22:9
 same-length-2 : tie.Need-same-length-2
 same-length-2 c = search needs
 
--- src/messages.rt:22:9
 returns-2 : tie.Need-returns-2
 unfolding because
 returns-2 c = let p = c .before .before .put2 .ensures in (put-same (ap because (sym (c .before .before .before .before .before .if2 .taken))) p, omega (arith, p .next))
 
--- src/messages.rt:25:29
 slice-aggregate-put-3 : tie.Need-slice-aggregate-put-3
 slice-aggregate-put-3 c = search needs
 
--- src/messages.rt:25:9
 put-requires-3 : tie.Need-put-requires-3
 put-requires-3 c κs = search needs
 
--- src/messages.rt:25:9
 same-length-3 : tie.Need-same-length-3
 same-length-3 c = search needs
 
--- src/messages.rt:25:9
 returns-3 : tie.Need-returns-3
 unfolding because
 returns-3 c = let p = c .before .before .put3 .ensures in (put-same (ap because (sym (c .before .before .before .before .before .if3 .taken))) p, omega (arith, p .next))
 
--- src/messages.rt:28:29
 slice-aggregate-put-4 : tie.Need-slice-aggregate-put-4
 slice-aggregate-put-4 c = search needs
 
--- src/messages.rt:28:9
 put-requires-4 : tie.Need-put-requires-4
 put-requires-4 c κs = search needs
 
--- src/messages.rt:28:9
 same-length-4 : tie.Need-same-length-4
 same-length-4 c = search needs
 
--- src/messages.rt:28:9
 returns-4 : tie.Need-returns-4
 unfolding because
 returns-4 c = let p = c .before .before .put4 .ensures in (put-same (ap because (sym (c .before .before .before .before .before .if4 .taken))) p, omega (arith, p .next))
 
--- src/messages.rt:31:29
 slice-aggregate-put-5 : tie.Need-slice-aggregate-put-5
 slice-aggregate-put-5 c = search needs
 
--- src/messages.rt:31:9
 put-requires-5 : tie.Need-put-requires-5
 put-requires-5 c κs = search needs
 
--- src/messages.rt:31:9
 same-length-5 : tie.Need-same-length-5
 same-length-5 c = search needs
 
--- src/messages.rt:31:9
 returns-5 : tie.Need-returns-5
 unfolding because
 returns-5 c = let p = c .before .before .put5 .ensures in (put-same (ap because (sym (c .before .before .before .before .before .if5 .taken))) p, omega (arith, p .next))
 
--- src/messages.rt:34:29
 slice-aggregate-put-6 : tie.Need-slice-aggregate-put-6
 slice-aggregate-put-6 c = search needs
 
--- src/messages.rt:34:9
 put-requires-6 : tie.Need-put-requires-6
 put-requires-6 c κs = search needs
 
--- src/messages.rt:34:9
 same-length-6 : tie.Need-same-length-6
 same-length-6 c = search needs
 
--- src/messages.rt:34:9
 returns-6 : tie.Need-returns-6
 unfolding because
 returns-6 c = let p = c .before .before .put6 .ensures in (put-same (ap because (sym (c .before .before .before .before .before .if6 .taken))) p, omega (arith, p .next))
 
--- src/messages.rt:37:29
 slice-aggregate-put-7 : tie.Need-slice-aggregate-put-7
 slice-aggregate-put-7 c = search needs
 
--- src/messages.rt:37:9
 put-requires-7 : tie.Need-put-requires-7
 put-requires-7 c κs = search needs
 
--- src/messages.rt:37:9
 same-length-7 : tie.Need-same-length-7
 same-length-7 c = search needs
 
--- src/messages.rt:37:9
 returns-7 : tie.Need-returns-7
 unfolding because
 returns-7 c = let p = c .before .before .put7 .ensures in (put-same (ap because (sym (c .before .before .before .before .before .if7 .taken))) p, omega (arith, p .next))
 
--- src/messages.rt:14:1
 returns-8 : tie.Need-returns-8
 unfolding because
 returns-8 c =

@@ -1,25 +1,19 @@
-use Rattle.assembly.specs.Messages.{message}
+-- `assembly::messages::put_too_long` meets its contract. The text fits. Assumes nothing.
 use native.Mathlib.Omega.{arith}
 use borrow.Author.Needs.{needs}
+use Rattle.assembly.specs.Messages.{message}
 use Rattle.assembly.proofs.messages.put_too_long.Statement.{statement}
 use Rattle.assembly.proofs.messages.put_too_long.Tie as tie
-use Rattle.assembly.proofs.messages.put_too_long.Reads as reads
-use Rattle.assembly.proofs.messages.put_too_long.Lts as lts
-use Rattle.script.proofs.put.Reads as put-reads
 
--- src/messages.rt:58:17
 slice-aggregate-put : tie.Need-slice-aggregate-put
 slice-aggregate-put c = search needs
 
--- src/messages.rt:58:5
 put-requires : tie.Need-put-requires
 put-requires c κs = search needs
 
--- src/messages.rt:54:1
 same-length : tie.Need-same-length
 same-length c = search needs
 
--- src/messages.rt:54:1
 returns : tie.Need-returns
 unfolding message
 returns c = let p = c .before .before .put .ensures in (p, omega (arith, p .next))

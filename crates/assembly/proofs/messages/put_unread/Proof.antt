@@ -1,54 +1,39 @@
-use Rattle.assembly.specs.Messages.{message}
-use Rattle.script.proofs.Decimals.{decimal-most}
-use Rattle.script.proofs.Puts.{put-then}
-use mathlib.Core.Path.{refl}
+-- `assembly::messages::put_unread` meets its contract. The five parts of the message stand one behind the other. Assumes nothing.
 use native.Mathlib.Omega.{arith}
 use borrow.Author.Needs.{needs}
+use Rattle.script.proofs.Decimals.{decimal-most}
+use Rattle.script.proofs.Puts.{put-then}
+use Rattle.assembly.specs.Messages.{message}
 use Rattle.assembly.proofs.messages.put_unread.Statement.{statement}
 use Rattle.assembly.proofs.messages.put_unread.Tie as tie
-use Rattle.assembly.proofs.messages.put_unread.Reads as reads
-use Rattle.assembly.proofs.messages.put_unread.Lts as lts
-use Rattle.assembly.proofs.messages.put_reason.Reads as put-reason-reads
-use Rattle.script.proofs.put.Reads as put-reads
-use Rattle.script.proofs.put_decimal.Reads as put-decimal-reads
 
--- src/messages.rt:47:25
 slice-aggregate-put : tie.Need-slice-aggregate-put
 slice-aggregate-put c = search needs
 
--- src/messages.rt:47:9
 put-requires : tie.Need-put-requires
 put-requires c κs = search needs
 
--- src/messages.rt:48:9
 put-decimal-requires : tie.Need-put-decimal-requires
 put-decimal-requires c κs = omega (arith, c .before .before .before .put .ensures .next, decimal-most (c .before .before .before .before .before .before .before .args .k))
 
--- src/messages.rt:49:25
 slice-aggregate-put-2 : tie.Need-slice-aggregate-put-2
 slice-aggregate-put-2 c = search needs
 
--- src/messages.rt:49:9
 put-requires-2 : tie.Need-put-requires-2
 put-requires-2 c κs = omega (arith, c .before .before .before .before .before .before .before .before .put .ensures .next, c .before .before .before .before .put-decimal .ensures .next, decimal-most (c .before .before .before .before .before .before .before .before .before .before .before .before .args .k))
 
--- src/messages.rt:50:9
 put-reason-requires : tie.Need-put-reason-requires
 put-reason-requires c κs = omega (arith, c .before .before .before .before .before .before .before .before .before .before .before .before .put .ensures .next, c .before .before .before .before .before .before .before .before .put-decimal .ensures .next, c .before .before .before .put2 .ensures .next, decimal-most (c .before .before .before .before .before .before .before .before .before .before .before .before .before .before .before .before .args .k))
 
--- src/messages.rt:51:17
 slice-aggregate-put-3 : tie.Need-slice-aggregate-put-3
 slice-aggregate-put-3 c = search needs
 
--- src/messages.rt:51:5
 put-requires-3 : tie.Need-put-requires-3
 put-requires-3 c κs = omega (arith, c .before .before .before .before .before .before .before .before .before .before .before .before .before .before .before .before .before .put .ensures .next, c .before .before .before .before .before .before .before .before .before .before .before .before .before .put-decimal .ensures .next, c .before .before .before .before .before .before .before .before .put2 .ensures .next, c .before .before .before .before .put-reason .ensures .1, decimal-most (c .before .before .before .before .before .before .before .before .before .before .before .before .before .before .before .before .before .before .before .before .before .args .k))
 
--- src/messages.rt:43:1
 same-length : tie.Need-same-length
 same-length c = search needs
 
--- src/messages.rt:43:1
 returns : tie.Need-returns
 unfolding message
 returns c =

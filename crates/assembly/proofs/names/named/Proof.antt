@@ -1,14 +1,12 @@
-use Rattle.assembly.proofs.Called.{from, is-here, is-later, is-nowhere}
-use Rattle.assembly.specs.Names.{named}
-use Prim.Native.Nat.{_-_, _≤_}
+-- `assembly::names::named` meets its contract. The names left decide as all of them do. The measure is their number. Assumes nothing.
 use mathlib.Core.Path.{_≡_, refl, sym, _∙_}
+use Prim.Native.Nat.{_-_, _≤_}
 use native.Mathlib.Omega.{arith}
 use borrow.Author.Needs.{needs}
+use Rattle.assembly.specs.Names.{named}
+use Rattle.assembly.proofs.Called.{from, is-here, is-later, is-nowhere}
 use Rattle.assembly.proofs.names.named.Statement.{statement}
 use Rattle.assembly.proofs.names.named.Tie as tie
-use Rattle.assembly.proofs.names.named.Reads as reads
-use Rattle.assembly.proofs.names.named.Lts as lts
-use Rattle.assembly.proofs.names.is_name.Reads as is-name-reads
 
 abbrev Inv-loop : tie.InvT-loop
 Inv-loop w k₀ k = (1 ≤ k) × (k ≤ 13) × (named w ≡ from w k)
@@ -16,35 +14,27 @@ Inv-loop w k₀ k = (1 ≤ k) × (k ≤ 13) × (named w ≡ from w k)
 abbrev μ-loop : tie.MeasureT-loop
 μ-loop w k₀ k = 13 - k
 
--- src/names.rt:75:5
 loop-holds : tie.Need-loop-holds Inv-loop μ-loop
 loop-holds c = (search needs, search needs, refl)
 
--- src/names.rt:76:12
 is-name-requires : tie.Need-is-name-requires Inv-loop μ-loop
 is-name-requires c κs = search needs
 
--- src/names.rt:77:20
 cast-result : tie.Need-cast-result Inv-loop μ-loop
 cast-result c = search needs
 
--- src/names.rt:77:13
 returns : tie.Need-returns Inv-loop μ-loop
 returns c = (sym (c .before .before .before .loop .inv .2 ∙ is-here (c .before .before .before .before .before .args .w .now) (c .before .before .before .loop .k) (omega arith) (omega arith) (sym (c .before .is-name .ensures) ∙ c .if1 .taken)), search needs)
 
--- src/names.rt:79:9
 add-k : tie.Need-add-k Inv-loop μ-loop
 add-k c = search needs
 
--- src/names.rt:75:5
 loop-less : tie.Need-loop-less Inv-loop μ-loop
 loop-less c = search needs
 
--- src/names.rt:75:5
 loop-again : tie.Need-loop-again Inv-loop μ-loop
 loop-again c = (search needs, search needs, c .before .before .before .loop .inv .2 ∙ is-later (c .before .before .before .before .before .args .w .now) (c .before .before .before .loop .k) (omega arith) (omega arith) (sym (c .before .is-name .ensures) ∙ c .if1 .left))
 
--- src/names.rt:71:1
 returns-2 : tie.Need-returns-2 Inv-loop μ-loop
 returns-2 c = (sym (c .before .loop .inv .2 ∙ is-nowhere (c .before .before .before .args .w .now) (c .before .loop .k) (omega arith)), search needs)
 

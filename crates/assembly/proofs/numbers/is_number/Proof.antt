@@ -1,36 +1,26 @@
-use Rattle.assembly.proofs.Values.{no-digits, too-wide, not-digits, by-value}
-use mathlib.Core.Path.{_≡_, sym, ap, _∙_}
-use native.Mathlib.Omega.{arith}
+-- `assembly::numbers::is_number` meets its contract. Each test is one of the definition. Assumes nothing.
+use mathlib.Core.Path.{sym, _∙_}
 use borrow.Author.Tests.{not-true, not-false}
 use borrow.Author.Needs.{needs}
+use Rattle.assembly.proofs.Values.{no-digits, too-wide, not-digits, by-value}
 use Rattle.assembly.proofs.numbers.is_number.Statement.{statement}
 use Rattle.assembly.proofs.numbers.is_number.Tie as tie
-use Rattle.assembly.proofs.numbers.is_number.Reads as reads
-use Rattle.assembly.proofs.numbers.is_number.Lts as lts
-use Rattle.assembly.proofs.numbers.all_digits.Reads as all-digits-reads
-use Rattle.assembly.proofs.numbers.value.Reads as value-reads
 
--- src/numbers.rt:51:9
 returns : tie.Need-returns
 returns c = no-digits (c .before .before .args .w .now) (c .if1 .taken)
 
--- src/numbers.rt:54:9
 returns-2 : tie.Need-returns-2
 returns-2 c = too-wide (c .before .before .before .args .w .now) (c .before .if1 .left) (c .if2 .taken)
 
--- src/numbers.rt:56:9
 all-digits-requires : tie.Need-all-digits-requires
 all-digits-requires c κs = search needs
 
--- src/numbers.rt:57:9
 returns-3 : tie.Need-returns-3
 returns-3 c = not-digits (c .before .before .before .before .before .args .w .now) (c .before .before .before .if1 .left) (c .before .before .if2 .left) (sym (c .before .all-digits .ensures) ∙ not-true _ (c .if3 .taken))
 
--- src/numbers.rt:59:5
 value-requires : tie.Need-value-requires
 value-requires c κs = (c .before .before .if2 .left, sym (c .before .all-digits .ensures) ∙ not-false _ (c .if3 .left))
 
--- src/numbers.rt:47:1
 returns-4 : tie.Need-returns-4
 returns-4 c = by-value (c .before .before .before .before .before .before .args .w .now) (c .value .result) (c .before .before .before .before .if1 .left) (c .before .before .before .if2 .left) (sym (c .before .before .all-digits .ensures) ∙ not-false _ (c .before .if3 .left)) (c .value .ensures)
 

@@ -1,15 +1,14 @@
-use Rattle.assembly.proofs.Values.{digit-here, value-more, value-over, grows, ten-digits}
-use Rattle.assembly.specs.Numbers.{allDigits, value}
-use lib.ListN.{length, drop}
-use Prim.Native.Nat.{_-_, _^_, _≤_, _<_}
+-- `assembly::numbers::value` meets its contract. The value so far with the digits left is the whole. The measure is their number. Assumes nothing.
+use mathlib.Core.Path.{_≡_, refl, sym, _∙_}
 use mathlib.Core.Bool.{true}
-use mathlib.Core.Path.{_≡_, refl, sym, ap, _∙_}
+use Prim.Native.Nat.{_-_, _^_, _≤_, _<_}
 use native.Mathlib.Omega.{arith}
+use lib.ListN.{length, drop}
 use borrow.Author.Needs.{needs}
+use Rattle.assembly.specs.Numbers.{allDigits, value}
+use Rattle.assembly.proofs.Values.{digit-here, value-more, value-over, grows, ten-digits}
 use Rattle.assembly.proofs.numbers.value.Statement.{statement}
 use Rattle.assembly.proofs.numbers.value.Tie as tie
-use Rattle.assembly.proofs.numbers.value.Reads as reads
-use Rattle.assembly.proofs.numbers.value.Lts as lts
 
 abbrev Inv-loop : tie.InvT-loop
 Inv-loop w v₀ i₀ v i = (i ≤ length w) × (value v (drop i w) ≡ value 0 w) × (allDigits (drop i w) ≡ true) × (v < 10 ^ i)
@@ -17,39 +16,30 @@ Inv-loop w v₀ i₀ v i = (i ≤ length w) × (value v (drop i w) ≡ value 0 w
 abbrev μ-loop : tie.MeasureT-loop
 μ-loop w v₀ i₀ v i = length w - i
 
--- src/numbers.rt:40:5
 loop-holds : tie.Need-loop-holds Inv-loop μ-loop
 loop-holds c = (search needs, refl, c .pre .1, search needs)
 
--- src/numbers.rt:41:13
 mul-v : tie.Need-mul-v Inv-loop μ-loop
 mul-v c = omega (arith, ten-digits (c .before .loop .v) (c .before .loop .i) (c .before .loop .inv .3) (omega arith))
 
--- src/numbers.rt:41:23
 shared-slice-read-v : tie.Need-shared-slice-read-v Inv-loop μ-loop
 shared-slice-read-v c = search needs
 
--- src/numbers.rt:41:23
 sub-v : tie.Need-sub-v Inv-loop μ-loop
 sub-v c = digit-here (c .before .before .before .args .w .now) (c .before .before .loop .i) (c .before .loop-test .taken) (c .before .before .loop .inv .2) .0 .0
 
--- src/numbers.rt:41:22
 cast-v : tie.Need-cast-v Inv-loop μ-loop
 cast-v c = let d = digit-here (c .before .before .before .args .w .now) (c .before .before .loop .i) (c .before .loop-test .taken) (c .before .before .loop .inv .2) in omega arith
 
--- src/numbers.rt:41:13
 add-v : tie.Need-add-v Inv-loop μ-loop
 add-v c = let d = digit-here (c .before .before .before .args .w .now) (c .before .before .loop .i) (c .before .loop-test .taken) (c .before .before .loop .inv .2) in omega (arith, ten-digits (c .before .before .loop .v) (c .before .before .loop .i) (c .before .before .loop .inv .3) (omega arith))
 
--- src/numbers.rt:42:9
 add-i : tie.Need-add-i Inv-loop μ-loop
 add-i c = search needs
 
--- src/numbers.rt:40:5
 loop-less : tie.Need-loop-less Inv-loop μ-loop
 loop-less c = search needs
 
--- src/numbers.rt:40:5
 loop-again : tie.Need-loop-again Inv-loop μ-loop
 loop-again c =
     let s = c .before .before .loop in
@@ -60,7 +50,6 @@ loop-again c =
       grows (s .v) (s .i) _ (s .inv .3) (omega (arith, d .0)),
     )
 
--- src/numbers.rt:34:1
 returns : tie.Need-returns Inv-loop μ-loop
 returns c = sym (value-over (c .before .before .args .w .now) (c .before .loop .i) (c .before .loop .v) (omega arith)) ∙ c .before .loop .inv .1
 

@@ -1,14 +1,13 @@
-use Rattle.assembly.proofs.Cuts.{found, passed, missing}
-use Rattle.assembly.specs.Text.{before}
-use lib.ListN.{length, drop}
-use Prim.Native.Nat.{_+_, _-_, _≤_}
+-- `assembly::parts::find` meets its contract. The bytes passed are none of them b. The measure is what is left. Assumes nothing.
 use mathlib.Core.Path.{_≡_}
+use Prim.Native.Nat.{_+_, _-_, _≤_}
 use native.Mathlib.Omega.{arith}
+use lib.ListN.{length, drop}
 use borrow.Author.Needs.{needs}
+use Rattle.assembly.specs.Text.{before}
+use Rattle.assembly.proofs.Cuts.{found, passed, missing}
 use Rattle.assembly.proofs.parts.find.Statement.{statement}
 use Rattle.assembly.proofs.parts.find.Tie as tie
-use Rattle.assembly.proofs.parts.find.Reads as reads
-use Rattle.assembly.proofs.parts.find.Lts as lts
 
 abbrev Inv-loop : tie.InvT-loop
 Inv-loop s b i₀ i = (i ≤ length s) × (length (before b s) ≡ i + length (before b (drop i s)))
@@ -16,31 +15,24 @@ Inv-loop s b i₀ i = (i ≤ length s) × (length (before b s) ≡ i + length (b
 abbrev μ-loop : tie.MeasureT-loop
 μ-loop s b i₀ i = length s - i
 
--- src/parts.rt:17:5
 loop-holds : tie.Need-loop-holds Inv-loop μ-loop
 loop-holds c = (search needs, omega arith)
 
--- src/parts.rt:18:12
 shared-slice-read-if1 : tie.Need-shared-slice-read-if1 Inv-loop μ-loop
 shared-slice-read-if1 c = search needs
 
--- src/parts.rt:19:13
 returns : tie.Need-returns Inv-loop μ-loop
 returns c = omega (arith, found (c .before .before .before .before .args .s .now) (c .before .before .before .before .args .b) (c .before .before .before .loop .i) (c .before .before .loop-test .taken) (c .if1 .taken))
 
--- src/parts.rt:21:9
 add-i : tie.Need-add-i Inv-loop μ-loop
 add-i c = search needs
 
--- src/parts.rt:17:5
 loop-less : tie.Need-loop-less Inv-loop μ-loop
 loop-less c = search needs
 
--- src/parts.rt:17:5
 loop-again : tie.Need-loop-again Inv-loop μ-loop
 loop-again c = (search needs, omega (arith, passed (c .before .before .before .before .args .s .now) (c .before .before .before .before .args .b) (c .before .before .before .loop .i) (c .before .before .loop-test .taken) (c .if1 .left)))
 
--- src/parts.rt:13:1
 returns-2 : tie.Need-returns-2 Inv-loop μ-loop
 returns-2 c = omega (arith, missing (c .before .before .args .s .now) (c .before .before .args .b) (c .before .loop .i) (omega arith))
 

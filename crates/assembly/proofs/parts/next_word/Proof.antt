@@ -1,52 +1,39 @@
-use Rattle.assembly.proofs.Splits.{next-is}
+-- `assembly::parts::next_word` meets its contract. First the blanks, then the letters. Assumes nothing.
 use borrow.Author.Needs.{needs}
+use Rattle.assembly.proofs.Splits.{next-is}
 use Rattle.assembly.proofs.parts.next_word.Statement.{statement}
 use Rattle.assembly.proofs.parts.next_word.Tie as tie
-use Rattle.assembly.proofs.parts.next_word.Reads as reads
-use Rattle.assembly.proofs.parts.next_word.Lts as lts
-use Rattle.assembly.proofs.parts.leading.Reads as leading-reads
 
--- src/parts.rt:67:25
 sub-leading : tie.Need-sub-leading
 sub-leading c = search needs
 
--- src/parts.rt:67:25
 part-leading-start : tie.Need-part-leading-start
 part-leading-start c = search needs
 
--- src/parts.rt:67:25
 part-leading-end : tie.Need-part-leading-end
 part-leading-end c = search needs
 
--- src/parts.rt:67:17
 leading-requires : tie.Need-leading-requires
 leading-requires c κs = search needs
 
--- src/parts.rt:67:13
 add-a : tie.Need-add-a
 add-a c = search needs
 
--- src/parts.rt:68:25
 sub-leading-2 : tie.Need-sub-leading-2
 sub-leading-2 c = search needs
 
--- src/parts.rt:68:25
 part-leading-start-2 : tie.Need-part-leading-start-2
 part-leading-start-2 c = search needs
 
--- src/parts.rt:68:25
 part-leading-end-2 : tie.Need-part-leading-end-2
 part-leading-end-2 c = search needs
 
--- src/parts.rt:68:17
 leading-requires-2 : tie.Need-leading-requires-2
 leading-requires-2 c κs = search needs
 
--- src/parts.rt:68:13
 add-t12 : tie.Need-add-t12
 add-t12 c = search needs
 
--- src/parts.rt:63:1
 returns : tie.Need-returns
 returns c = next-is (c .before .before .before .before .before .args .s .now) (c .before .before .before .before .before .args .i) (c .before .before .leading .result) (c .leading2 .result) (c .before .before .before .before .before .pre) (c .before .before .leading .ensures .0) (c .before .before .leading .ensures .1) (c .leading2 .ensures .0) (c .leading2 .ensures .1)
 
