@@ -34,7 +34,9 @@ returns-2 : tie.Need-returns-2
 returns-2 c =
     let s = c .before .before .before .before .before .before .before .before .before .before .args in
     let r = c .before .before .before .before .before .read-text in
-    answered (s .text .now) (s .out .now) (r .last .1 .0) (c .put .last .0) (c .put .result) (c .before .before .before .script-length .result) (r .result) (omega arith) (omega arith) (r .ensures .0) (r .ensures .1) (omega arith) (c .before .before .before .script-length .ensures) (c .put .ensures) (omega arith)
+    answered (s .text .now) (s .out .now) (r .last .1 .0) (c .put .last .0) (c .put .result) (c .before .before .before .script-length .result) (r .result)
+    (omega arith) (omega arith) (r .ensures .0) (r .ensures .1) (omega arith) (c .before .before .before .script-length .ensures) (c .put .ensures)
+    (omega arith)
 
 pub assemble-spec : {M : Type 1} → statement M
 assemble-spec =

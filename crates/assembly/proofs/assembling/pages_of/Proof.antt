@@ -28,7 +28,8 @@ count-words-requires c κs = search needs
 returns-2 : tie.Need-returns-2
 returns-2 c =
     let n = c .before .before .before .before .next-word .ensures in
-    more-words (c .before .before .before .before .before .before .args .s .now) n (omega (arith, n .order, c .before .before .before .if1 .left)) _ (c .before .count-words .ensures .0) (c .if2 .taken)
+    more-words (c .before .before .before .before .before .before .args .s .now) n (omega (arith, n .order, c .before .before .before .if1 .left)) _
+    (c .before .count-words .ensures .0) (c .if2 .taken)
 
 sub-is-number : tie.Need-sub-is-number
 sub-is-number c = search needs
@@ -45,7 +46,9 @@ is-number-requires c κs = search needs
 returns-3 : tie.Need-returns-3
 returns-3 c =
     let n = c .before .before .before .before .before .before .before .next-word .ensures in
-    no-number (c .before .before .before .before .before .before .before .before .before .args .s .now) n (omega (arith, n .order, c .before .before .before .before .before .before .if1 .left)) _ (c .before .before .before .before .count-words .ensures .0) (c .before .before .before .if2 .left) (sym (c .before .is-number .ensures) ∙ not-true _ (c .if3 .taken))
+    no-number (c .before .before .before .before .before .before .before .before .before .args .s .now) n
+    (omega (arith, n .order, c .before .before .before .before .before .before .if1 .left)) _ (c .before .before .before .before .count-words .ensures .0)
+    (c .before .before .before .if2 .left) (sym (c .before .is-number .ensures) ∙ not-true _ (c .if3 .taken))
 
 sub-number : tie.Need-sub-number
 sub-number c = search needs
@@ -62,17 +65,31 @@ number-requires c κs = sym (c .before .before .is-number .ensures) ∙ not-fals
 returns-4 : tie.Need-returns-4
 returns-4 c =
     let n = c .before .before .before .before .before .before .before .before .before .before .next-word .ensures in
-    too-small (c .before .before .before .before .before .before .before .before .before .before .before .before .args .s .now) n (omega (arith, n .order, c .before .before .before .before .before .before .before .before .before .if1 .left)) _ (c .before .before .before .before .before .before .before .count-words .ensures .0) (c .before .before .before .before .before .before .if2 .left) (sym (c .before .before .before .before .is-number .ensures) ∙ not-false _ (c .before .before .before .if3 .left)) _ (c .before .number .ensures) (c .if4 .taken)
+    too-small (c .before .before .before .before .before .before .before .before .before .before .before .before .args .s .now) n
+    (omega (arith, n .order, c .before .before .before .before .before .before .before .before .before .if1 .left)) _
+    (c .before .before .before .before .before .before .before .count-words .ensures .0) (c .before .before .before .before .before .before .if2 .left)
+    (sym (c .before .before .before .before .is-number .ensures) ∙ not-false _ (c .before .before .before .if3 .left)) _ (c .before .number .ensures)
+    (c .if4 .taken)
 
 returns-5 : tie.Need-returns-5
 returns-5 c =
     let n = c .before .before .before .before .before .before .before .before .before .before .before .next-word .ensures in
-    too-large (c .before .before .before .before .before .before .before .before .before .before .before .before .before .args .s .now) n (omega (arith, n .order, c .before .before .before .before .before .before .before .before .before .before .if1 .left)) _ (c .before .before .before .before .before .before .before .before .count-words .ensures .0) (c .before .before .before .before .before .before .before .if2 .left) (sym (c .before .before .before .before .before .is-number .ensures) ∙ not-false _ (c .before .before .before .before .if3 .left)) _ (c .before .before .number .ensures) (c .before .if4 .left) (c .if5 .taken)
+    too-large (c .before .before .before .before .before .before .before .before .before .before .before .before .before .args .s .now) n
+    (omega (arith, n .order, c .before .before .before .before .before .before .before .before .before .before .if1 .left)) _
+    (c .before .before .before .before .before .before .before .before .count-words .ensures .0)
+    (c .before .before .before .before .before .before .before .if2 .left)
+    (sym (c .before .before .before .before .before .is-number .ensures) ∙ not-false _ (c .before .before .before .before .if3 .left)) _
+    (c .before .before .number .ensures) (c .before .if4 .left) (c .if5 .taken)
 
 returns-6 : tie.Need-returns-6
 returns-6 c =
     let n = c .before .before .before .before .before .before .before .before .before .before .before .next-word .ensures in
-    is-pages (c .before .before .before .before .before .before .before .before .before .before .before .before .before .args .s .now) n (omega (arith, n .order, c .before .before .before .before .before .before .before .before .before .before .if1 .left)) _ (c .before .before .before .before .before .before .before .before .count-words .ensures .0) (c .before .before .before .before .before .before .before .if2 .left) (sym (c .before .before .before .before .before .is-number .ensures) ∙ not-false _ (c .before .before .before .before .if3 .left)) _ (c .before .before .number .ensures) (c .before .if4 .left) (c .if5 .left)
+    is-pages (c .before .before .before .before .before .before .before .before .before .before .before .before .before .args .s .now) n
+    (omega (arith, n .order, c .before .before .before .before .before .before .before .before .before .before .if1 .left)) _
+    (c .before .before .before .before .before .before .before .before .count-words .ensures .0)
+    (c .before .before .before .before .before .before .before .if2 .left)
+    (sym (c .before .before .before .before .before .is-number .ensures) ∙ not-false _ (c .before .before .before .before .if3 .left)) _
+    (c .before .before .number .ensures) (c .before .if4 .left) (c .if5 .left)
 
 pub pages-of-spec : {M : Type 1} → statement M
 pages-of-spec =

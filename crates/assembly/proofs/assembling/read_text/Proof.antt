@@ -1,4 +1,4 @@
--- `assembly::assembling::read_text` meets its contract. The lines left come to what all of them come to. The measure is what is left of the text. Assumes nothing.
+-- `assembly::assembling::read_text` meets its contract. The lines left decide as all of them do. The measure is the text left. Assumes nothing.
 use mathlib.Core.Path.{_≡_, refl, sym, _∙_}
 use Prim.Native.Nat.{_+_, _-_, _≤_}
 use native.Mathlib.Omega.{arith}
@@ -51,8 +51,13 @@ same-length c = search needs
 
 returns : tie.Need-returns Inv-loop μ-loop
 returns c =
-    let n = c .before .before .before .before .count-words in
-    (no-pages (c .before .before .before .before .before .before .before .before .before .before .before .args .text .now) _ (c .before .before .before .before .before .before .line-at .ensures) _ (c .before .pages-of .ensures) (λ q. c .before .before .before .if1 .taken (n .ensures .0 ∙ q)) (c .if2 .taken) ∙ c .before .before .before .before .before .before .before .before .loop .inv .0, search needs)
+    let n = c .before .before .before .before .count-words in (
+      no-pages (c .before .before .before .before .before .before .before .before .before .before .before .args .text .now) _
+          (c .before .before .before .before .before .before .line-at .ensures) _ (c .before .pages-of .ensures)
+          (λ q. c .before .before .before .if1 .taken (n .ensures .0 ∙ q)) (c .if2 .taken) ∙
+          c .before .before .before .before .before .before .before .before .loop .inv .0,
+      search needs,
+    )
 
 add-read-calls : tie.Need-add-read-calls Inv-loop μ-loop
 add-read-calls c = search needs
@@ -61,7 +66,16 @@ add-read-calls-2 : tie.Need-add-read-calls-2 Inv-loop μ-loop
 add-read-calls-2 c = search needs
 
 read-calls-requires : tie.Need-read-calls-requires Inv-loop μ-loop
-read-calls-requires c κs = let l = c .before .before .before .before .before .before .before .line-at .ensures in ((c .before .before .before .before .before .before .before .before .before .before .before .before .pre .0, omega (arith, l .within), omega (arith, l .after, l .order)), search needs)
+read-calls-requires c κs =
+    let l = c .before .before .before .before .before .before .before .line-at .ensures in (
+      (
+        c .before .before .before .before .before .before .before .before .before .before .before .before .pre .0,
+        omega (arith, l .within),
+        omega
+            (arith, l .after, l .order),
+      ),
+      search needs,
+    )
 
 same-length-2 : tie.Need-same-length-2 Inv-loop μ-loop
 same-length-2 c = search needs
@@ -69,8 +83,14 @@ same-length-2 c = search needs
 returns-2 : tie.Need-returns-2 Inv-loop μ-loop
 returns-2 c =
     let n = c .before .before .before .before .before .before .before .before .count-words in
-    let r = c .before .before .read-calls .ensures in
-    (r .0 ∙ pages (c .before .before .before .before .before .before .before .before .before .before .before .before .before .before .before .args .text .now) _ (c .before .before .before .before .before .before .before .before .before .before .line-at .ensures) _ (c .before .before .before .before .before .pages-of .ensures) (λ q. c .before .before .before .before .before .before .before .if1 .taken (n .ensures .0 ∙ q)) (c .before .before .before .before .if2 .left) ∙ c .before .before .before .before .before .before .before .before .before .before .before .before .loop .inv .0, r .1)
+    let r = c .before .before .read-calls .ensures in (
+      r .0 ∙ pages (c .before .before .before .before .before .before .before .before .before .before .before .before .before .before .before .args .text .now)
+          _ (c .before .before .before .before .before .before .before .before .before .before .line-at .ensures) _
+          (c .before .before .before .before .before .pages-of .ensures)
+          (λ q. c .before .before .before .before .before .before .before .if1 .taken (n .ensures .0 ∙ q)) (c .before .before .before .before .if2 .left) ∙
+          c .before .before .before .before .before .before .before .before .before .before .before .before .loop .inv .0,
+      r .1,
+    )
 
 add-k : tie.Need-add-k Inv-loop μ-loop
 add-k c = search needs
@@ -84,7 +104,8 @@ loop-less c = let l = c .before .before .before .line-at .ensures in omega (arit
 loop-again : tie.Need-loop-again Inv-loop μ-loop
 loop-again c =
     let l = c .before .before .before .line-at .ensures in (
-      blank-line (c .before .before .before .before .before .before .before .before .args .text .now) _ l (sym (c .before .count-words .ensures .0) ∙ c .if1 .left) ∙ c .before .before .before .before .before .loop .inv .0,
+      blank-line (c .before .before .before .before .before .before .before .before .args .text .now) _ l
+          (sym (c .before .count-words .ensures .0) ∙ c .if1 .left) ∙ c .before .before .before .before .before .loop .inv .0,
       omega (arith, l .within),
       omega (arith, l .after, l .order),
       search needs,
@@ -94,7 +115,11 @@ same-length-3 : tie.Need-same-length-3 Inv-loop μ-loop
 same-length-3 c = search needs
 
 returns-3 : tie.Need-returns-3 Inv-loop μ-loop
-returns-3 c = (no-lines (c .before .before .before .before .args .text .now) (c .before .loop .i) (c .before .loop .k) (omega arith) ∙ c .before .loop .inv .0, search needs)
+returns-3 c = (
+  no-lines (c .before .before .before .before .args .text .now) (c .before .loop .i) (c .before .loop .k) (omega arith) ∙ c .before .loop .inv .0,
+  search
+      needs,
+)
 
 pub read-text-spec : {M : Type 1} → statement M
 read-text-spec =

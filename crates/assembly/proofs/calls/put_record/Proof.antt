@@ -14,7 +14,9 @@ call-number-requires : tie.Need-call-number-requires
 call-number-requires c κs = search needs
 
 put-word-requires : tie.Need-put-word-requires
-put-word-requires c κs = let s = c .before .before .before .before .before in omega (arith, s .pre .1, fine (s .args .at) (s .args .w .now) (split (s .args .s .now)) (s .pre .0) .room)
+put-word-requires c κs =
+    let s = c .before .before .before .before .before in omega
+    (arith, s .pre .1, fine (s .args .at) (s .args .w .now) (split (s .args .s .now)) (s .pre .0) .room)
 
 put-numbers-requires : tie.Need-put-numbers-requires
 put-numbers-requires c κs =
@@ -29,9 +31,17 @@ returns : tie.Need-returns
 returns c =
     let s = c .before .before .before .before .before .before .before .before .before .before .before .before in
     let ws = split (s .args .s .now) in
-    let p = put-same (ap littleEndian (c .before .before .before .before .before .before .before .before .call-number .ensures .0)) (c .before .before .before .before .before .before .put-word .ensures) in (
+    let p =
+    put-same (ap littleEndian (c .before .before .before .before .before .before .before .before .call-number .ensures .0))
+    (c .before .before .before .before .before .before .put-word .ensures) in (
       record-put (s .args .w .now) ws p (c .before .before .put-numbers .ensures),
-      omega (arith, fine (s .args .at) (s .args .w .now) ws (s .pre .0) .room, c .before .before .before .before .before .before .put-word .ensures .next, c .before .before .put-numbers .ensures .next, arguments-length ws),
+      omega (
+        arith,
+        fine (s .args .at) (s .args .w .now) ws (s .pre .0) .room,
+        c .before .before .before .before .before .before .put-word .ensures .next,
+        c .before .before .put-numbers .ensures .next,
+        arguments-length ws,
+      ),
     )
 
 pub put-record-spec : {M : Type 1} → statement M

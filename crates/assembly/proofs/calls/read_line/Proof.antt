@@ -10,7 +10,9 @@ next-word-requires : tie.Need-next-word-requires
 next-word-requires c κs = search needs
 
 returns : tie.Need-returns
-returns c = let s = c .before .before .before .before in skipped (s .args .s .now) (s .args .out .now) (s .args .at) _ _ (c .before .next-word .ensures) (s .pre .0) (c .if1 .taken)
+returns c =
+    let s = c .before .before .before .before in skipped (s .args .s .now) (s .args .out .now) (s .args .at) _ _ (c .before .next-word .ensures) (s .pre .0)
+    (c .if1 .taken)
 
 sub-reason : tie.Need-sub-reason
 sub-reason c = search needs
@@ -37,7 +39,8 @@ returns-2 : tie.Need-returns-2
 returns-2 c =
     let s = c .before .before .before .before .before .before .before .before in
     let n = c .before .before .before .before .before .next-word .ensures in
-    refused (s .args .s .now) (s .args .out .now) (s .args .at) _ _ n (s .pre .0) _ (omega (arith, n .order, c .before .before .before .before .if1 .left)) (c .before .reason .ensures) (c .if2 .taken)
+    refused (s .args .s .now) (s .args .out .now) (s .args .at) _ _ n (s .pre .0) _ (omega (arith, n .order, c .before .before .before .before .if1 .left))
+    (c .before .reason .ensures) (c .if2 .taken)
 
 sub-put-record : tie.Need-sub-put-record
 sub-put-record c = search needs
@@ -68,7 +71,10 @@ returns-3 c =
     let s = c .before .before .before .before .before .before .before .before .before .before .before .before .before .before in
     let n = c .before .before .before .before .before .before .before .before .before .before .before .next-word .ensures in
     let p = c .before .before .put-record .ensures in
-    taken (s .args .s .now) (s .args .out .now) (s .args .at) _ _ n (s .pre .0) (omega (arith, n .order, c .before .before .before .before .before .before .before .before .before .before .if1 .left)) (sym (c .before .before .before .before .before .before .if2 .left) ∙ c .before .before .before .before .before .before .before .reason .ensures) (p .0) (p .1)
+    taken (s .args .s .now) (s .args .out .now) (s .args .at) _ _ n (s .pre .0)
+    (omega (arith, n .order, c .before .before .before .before .before .before .before .before .before .before .if1 .left))
+    (sym (c .before .before .before .before .before .before .if2 .left) ∙ c .before .before .before .before .before .before .before .reason .ensures) (p .0)
+    (p .1)
 
 pub read-line-spec : {M : Type 1} → statement M
 read-line-spec =

@@ -20,7 +20,8 @@ same-length c = search needs
 
 returns : tie.Need-returns
 unfolding because
-returns c = let p = c .before .before .put .ensures in (put-same (ap because (sym (c .before .before .before .before .before .if1 .taken))) p, omega (arith, p .next))
+returns c =
+    let p = c .before .before .put .ensures in (put-same (ap because (sym (c .before .before .before .before .before .if1 .taken))) p, omega (arith, p .next))
 
 slice-aggregate-put-2 : tie.Need-slice-aggregate-put-2
 slice-aggregate-put-2 c = search needs
@@ -33,7 +34,9 @@ same-length-2 c = search needs
 
 returns-2 : tie.Need-returns-2
 unfolding because
-returns-2 c = let p = c .before .before .put2 .ensures in (put-same (ap because (sym (c .before .before .before .before .before .if2 .taken))) p, omega (arith, p .next))
+returns-2 c =
+    let p = c .before .before .put2 .ensures in
+    (put-same (ap because (sym (c .before .before .before .before .before .if2 .taken))) p, omega (arith, p .next))
 
 slice-aggregate-put-3 : tie.Need-slice-aggregate-put-3
 slice-aggregate-put-3 c = search needs
@@ -46,7 +49,9 @@ same-length-3 c = search needs
 
 returns-3 : tie.Need-returns-3
 unfolding because
-returns-3 c = let p = c .before .before .put3 .ensures in (put-same (ap because (sym (c .before .before .before .before .before .if3 .taken))) p, omega (arith, p .next))
+returns-3 c =
+    let p = c .before .before .put3 .ensures in
+    (put-same (ap because (sym (c .before .before .before .before .before .if3 .taken))) p, omega (arith, p .next))
 
 slice-aggregate-put-4 : tie.Need-slice-aggregate-put-4
 slice-aggregate-put-4 c = search needs
@@ -59,7 +64,9 @@ same-length-4 c = search needs
 
 returns-4 : tie.Need-returns-4
 unfolding because
-returns-4 c = let p = c .before .before .put4 .ensures in (put-same (ap because (sym (c .before .before .before .before .before .if4 .taken))) p, omega (arith, p .next))
+returns-4 c =
+    let p = c .before .before .put4 .ensures in
+    (put-same (ap because (sym (c .before .before .before .before .before .if4 .taken))) p, omega (arith, p .next))
 
 slice-aggregate-put-5 : tie.Need-slice-aggregate-put-5
 slice-aggregate-put-5 c = search needs
@@ -72,7 +79,9 @@ same-length-5 c = search needs
 
 returns-5 : tie.Need-returns-5
 unfolding because
-returns-5 c = let p = c .before .before .put5 .ensures in (put-same (ap because (sym (c .before .before .before .before .before .if5 .taken))) p, omega (arith, p .next))
+returns-5 c =
+    let p = c .before .before .put5 .ensures in
+    (put-same (ap because (sym (c .before .before .before .before .before .if5 .taken))) p, omega (arith, p .next))
 
 slice-aggregate-put-6 : tie.Need-slice-aggregate-put-6
 slice-aggregate-put-6 c = search needs
@@ -85,7 +94,9 @@ same-length-6 c = search needs
 
 returns-6 : tie.Need-returns-6
 unfolding because
-returns-6 c = let p = c .before .before .put6 .ensures in (put-same (ap because (sym (c .before .before .before .before .before .if6 .taken))) p, omega (arith, p .next))
+returns-6 c =
+    let p = c .before .before .put6 .ensures in
+    (put-same (ap because (sym (c .before .before .before .before .before .if6 .taken))) p, omega (arith, p .next))
 
 slice-aggregate-put-7 : tie.Need-slice-aggregate-put-7
 slice-aggregate-put-7 c = search needs
@@ -98,13 +109,30 @@ same-length-7 c = search needs
 
 returns-7 : tie.Need-returns-7
 unfolding because
-returns-7 c = let p = c .before .before .put7 .ensures in (put-same (ap because (sym (c .before .before .before .before .before .if7 .taken))) p, omega (arith, p .next))
+returns-7 c =
+    let p = c .before .before .put7 .ensures in
+    (put-same (ap because (sym (c .before .before .before .before .before .if7 .taken))) p, omega (arith, p .next))
 
 returns-8 : tie.Need-returns-8
 unfolding because
 returns-8 c =
-    let s = c .before .before .before .before .before .before .before .before .args in
-    (rw (because, ne-eqb (s .why) 1 (c .before .before .before .before .before .before .if1 .left), ne-eqb (s .why) 2 (c .before .before .before .before .before .if2 .left), ne-eqb (s .why) 3 (c .before .before .before .before .if3 .left), ne-eqb (s .why) 4 (c .before .before .before .if4 .left), ne-eqb (s .why) 5 (c .before .before .if5 .left), ne-eqb (s .why) 6 (c .before .if6 .left), ne-eqb (s .why) 7 (c .if7 .left)) (put-none (s .out .now) (s .at)), search needs)
+    let s = c .before .before .before .before .before .before .before .before .args in (
+      rw (
+        because,
+        ne-eqb (s .why) 1 (c .before .before .before .before .before .before .if1 .left),
+        ne-eqb (s .why) 2
+            (c .before .before .before .before .before .if2 .left),
+        ne-eqb (s .why) 3 (c .before .before .before .before .if3 .left),
+        ne-eqb (s .why) 4
+            (c .before .before .before .if4 .left),
+        ne-eqb (s .why) 5 (c .before .before .if5 .left),
+        ne-eqb (s .why) 6 (c .before .if6 .left),
+        ne-eqb (s .why) 7
+            (c .if7 .left),
+      )
+          (put-none (s .out .now) (s .at)),
+      search needs,
+    )
 
 pub put-reason-spec : {M : Type 1} → statement M
 put-reason-spec =

@@ -41,15 +41,21 @@ is-number-requires c κs = search needs
 returns-2 : tie.Need-returns-2 Inv-loop μ-loop
 returns-2 c =
     let n = c .before .before .before .before .next-word .ensures in
-    sym (c .before .before .before .before .before .loop .inv .1 ∙ no-number (c .before .before .before .before .before .before .before .args .s .now) n (omega (arith, n .order, c .before .before .before .if1 .left)) (sym (c .before .is-number .ensures) ∙ not-true _ (c .if2 .taken)))
+    sym
+    (c .before .before .before .before .before .loop .inv .1 ∙ no-number (c .before .before .before .before .before .before .before .args .s .now) n
+    (omega (arith, n .order, c .before .before .before .if1 .left)) (sym (c .before .is-number .ensures) ∙ not-true _ (c .if2 .taken)))
 
 loop-less : tie.Need-loop-less Inv-loop μ-loop
-loop-less c = let n = c .before .before .before .before .next-word .ensures in omega (arith, n .after, n .order, n .within, c .before .before .before .if1 .left)
+loop-less c =
+    let n = c .before .before .before .before .next-word .ensures in omega (arith, n .after, n .order, n .within, c .before .before .before .if1 .left)
 
 loop-again : tie.Need-loop-again Inv-loop μ-loop
 loop-again c =
-    let n = c .before .before .before .before .next-word .ensures in
-    (n .within, c .before .before .before .before .before .loop .inv .1 ∙ a-number (c .before .before .before .before .before .before .before .args .s .now) n (omega (arith, n .order, c .before .before .before .if1 .left)) (sym (c .before .is-number .ensures) ∙ not-false _ (c .if2 .left)))
+    let n = c .before .before .before .before .next-word .ensures in (
+      n .within,
+      c .before .before .before .before .before .loop .inv .1 ∙ a-number (c .before .before .before .before .before .before .before .args .s .now) n
+          (omega (arith, n .order, c .before .before .before .if1 .left)) (sym (c .before .is-number .ensures) ∙ not-false _ (c .if2 .left)),
+    )
 
 pub all-numbers-spec : {M : Type 1} → statement M
 all-numbers-spec =

@@ -26,13 +26,18 @@ shared-slice-read-v : tie.Need-shared-slice-read-v Inv-loop μ-loop
 shared-slice-read-v c = search needs
 
 sub-v : tie.Need-sub-v Inv-loop μ-loop
-sub-v c = digit-here (c .before .before .before .args .w .now) (c .before .before .loop .i) (c .before .loop-test .taken) (c .before .before .loop .inv .2) .0 .0
+sub-v c =
+    digit-here (c .before .before .before .args .w .now) (c .before .before .loop .i) (c .before .loop-test .taken) (c .before .before .loop .inv .2) .0 .0
 
 cast-v : tie.Need-cast-v Inv-loop μ-loop
-cast-v c = let d = digit-here (c .before .before .before .args .w .now) (c .before .before .loop .i) (c .before .loop-test .taken) (c .before .before .loop .inv .2) in omega arith
+cast-v c =
+    let d = digit-here (c .before .before .before .args .w .now) (c .before .before .loop .i) (c .before .loop-test .taken) (c .before .before .loop .inv .2)
+    in omega arith
 
 add-v : tie.Need-add-v Inv-loop μ-loop
-add-v c = let d = digit-here (c .before .before .before .args .w .now) (c .before .before .loop .i) (c .before .loop-test .taken) (c .before .before .loop .inv .2) in omega (arith, ten-digits (c .before .before .loop .v) (c .before .before .loop .i) (c .before .before .loop .inv .3) (omega arith))
+add-v c =
+    let d = digit-here (c .before .before .before .args .w .now) (c .before .before .loop .i) (c .before .loop-test .taken) (c .before .before .loop .inv .2)
+    in omega (arith, ten-digits (c .before .before .loop .v) (c .before .before .loop .i) (c .before .before .loop .inv .3) (omega arith))
 
 add-i : tie.Need-add-i Inv-loop μ-loop
 add-i c = search needs

@@ -30,7 +30,9 @@ loop-less : tie.Need-loop-less Inv-loop μ-loop
 loop-less c = let n = c .before .next-word .ensures in omega (arith, n .after, n .order, n .within, c .if1 .left)
 
 loop-again : tie.Need-loop-again Inv-loop μ-loop
-loop-again c = let n = c .before .next-word .ensures in (n .within, omega (arith, n .after, n .order, c .if1 .left), omega (arith, ap length (n .word (omega (arith, n .order, c .if1 .left)))))
+loop-again c =
+    let n = c .before .next-word .ensures in
+    (n .within, omega (arith, n .after, n .order, c .if1 .left), omega (arith, ap length (n .word (omega (arith, n .order, c .if1 .left)))))
 
 pub count-words-spec : {M : Type 1} → statement M
 count-words-spec =

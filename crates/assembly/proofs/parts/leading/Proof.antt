@@ -26,7 +26,13 @@ is-kind-requires : tie.Need-is-kind-requires Inv-loop μ-loop
 is-kind-requires c κs = search needs
 
 returns : tie.Need-returns Inv-loop μ-loop
-returns c = omega (arith, stops (c .before .before .before .before .before .before .args .s .now) (c .before .before .before .before .before .before .args .t) (c .before .before .before .before .loop .i) (c .before .before .before .loop-test .taken) (sym (c .before .is-kind .ensures) ∙ not-true _ (c .if1 .taken)))
+returns c =
+    omega (
+      arith,
+      stops (c .before .before .before .before .before .before .args .s .now) (c .before .before .before .before .before .before .args .t)
+          (c .before .before .before .before .loop .i) (c .before .before .before .loop-test .taken)
+          (sym (c .before .is-kind .ensures) ∙ not-true _ (c .if1 .taken)),
+    )
 
 add-i : tie.Need-add-i Inv-loop μ-loop
 add-i c = search needs
@@ -35,7 +41,15 @@ loop-less : tie.Need-loop-less Inv-loop μ-loop
 loop-less c = search needs
 
 loop-again : tie.Need-loop-again Inv-loop μ-loop
-loop-again c = (search needs, omega (arith, goes (c .before .before .before .before .before .before .args .s .now) (c .before .before .before .before .before .before .args .t) (c .before .before .before .before .loop .i) (c .before .before .before .loop-test .taken) (sym (c .before .is-kind .ensures) ∙ not-false _ (c .if1 .left))))
+loop-again c = (
+  search needs,
+  omega (
+    arith,
+    goes (c .before .before .before .before .before .before .args .s .now) (c .before .before .before .before .before .before .args .t)
+        (c .before .before .before .before .loop .i) (c .before .before .before .loop-test .taken)
+        (sym (c .before .is-kind .ensures) ∙ not-false _ (c .if1 .left)),
+  ),
+)
 
 returns-2 : tie.Need-returns-2 Inv-loop μ-loop
 returns-2 c = omega (arith, over (c .before .before .before .args .s .now) (c .before .before .before .args .t) (c .before .loop .i) (omega arith))

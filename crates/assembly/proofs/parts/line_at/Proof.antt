@@ -35,7 +35,10 @@ add-f : tie.Need-add-f
 add-f c = search needs
 
 returns : tie.Need-returns
-returns c = line-is (c .before .before .before .before .before .args .text .now) (c .before .before .before .before .before .args .i) (c .before .before .find .result) (c .find2 .result) (c .before .before .before .before .before .pre) (c .before .before .find .ensures .0) (c .before .before .find .ensures .1) (c .find2 .ensures .0) (c .find2 .ensures .1)
+returns c =
+    line-is (c .before .before .before .before .before .args .text .now) (c .before .before .before .before .before .args .i)
+    (c .before .before .find .result) (c .find2 .result) (c .before .before .before .before .before .pre) (c .before .before .find .ensures .0)
+    (c .before .before .find .ensures .1) (c .find2 .ensures .0) (c .find2 .ensures .1)
 
 pub line-at-spec : {M : Type 1} → statement M
 line-at-spec =

@@ -35,7 +35,10 @@ add-t12 : tie.Need-add-t12
 add-t12 c = search needs
 
 returns : tie.Need-returns
-returns c = next-is (c .before .before .before .before .before .args .s .now) (c .before .before .before .before .before .args .i) (c .before .before .leading .result) (c .leading2 .result) (c .before .before .before .before .before .pre) (c .before .before .leading .ensures .0) (c .before .before .leading .ensures .1) (c .leading2 .ensures .0) (c .leading2 .ensures .1)
+returns c =
+    next-is (c .before .before .before .before .before .args .s .now) (c .before .before .before .before .before .args .i)
+    (c .before .before .leading .result) (c .leading2 .result) (c .before .before .before .before .before .pre) (c .before .before .leading .ensures .0)
+    (c .before .before .leading .ensures .1) (c .leading2 .ensures .0) (c .leading2 .ensures .1)
 
 pub next-word-spec : {M : Type 1} → statement M
 next-word-spec =
