@@ -30,7 +30,7 @@ def text(rng):
     blank = lambda: rng.choice([' ', '  ', '\t', ' \r'])
     skipped = lambda: rng.choice(['', '\n', ' \n', '# enter 1\n', '\t# x\n', ' \r\n'])
     out = skipped() + blank().strip('\n') + some(rng, ['16', '20', '0256', '255'], ['15', '257', 'x', '20 20', '', 'enter 1'], slip) + '\n'
-    for _ in range(400 if rng.random() < 0.005 else rng.choice([0, 1, 3, 8, 8])):
+    for _ in range(400 if rng.random() < 0.01 else rng.choice([0, 1, 3, 8, 8])):
         n = rng.randrange(12)
         name, count = CALLS[n]
         count += 0 if rng.random() >= slip else rng.choice([-1, 1])

@@ -9,13 +9,13 @@ use Rattle.rules.specs.Replay.{headerBytes}
 use Rattle.assembly.specs.Text.{lines, words}
 use Rattle.assembly.specs.Lines.{pagesOf, recordOf, callsIn, reason}
 
--- "The result is either a script .. or a line's number and a reason"; a text that is too long has neither
+-- "The result is either a script .. or a line's number and a reason"; of a text that is too long it is neither
 pub data Result : Type 0 where
   written : List ℕ → Result
   unread : ℕ → ℕ → Result
   tooLong : Result
 
--- the most bytes of a text
+-- "Text is bytes, 65,536 at most."
 abbrev pub mostText : ℕ
 mostText = 65536
 

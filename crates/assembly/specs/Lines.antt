@@ -1,4 +1,4 @@
--- The line that has N, and a call's line. `line` is its words. Assumes nothing.
+-- The line that has N, and a call's line, each by its words. Assumes nothing.
 use mathlib.Core.List.{List, [], _∷_, _++_}
 use mathlib.Core.Bool.{cond, not, _&&_}
 use Prim.Native.Nat.{ℕ, _+_, _*_}
@@ -15,12 +15,12 @@ unfoldable pub pagesOf : List (List ℕ) → ℕ
 pagesOf [] = 0
 pagesOf (w ∷ more) = cond (eqb (length more) 0 && isNumber w && leb leastPages (number w) && leb (number w) (mostPages 6)) (number w) 0
 
--- the words of the numbers, as bytes
+-- the numbers as words of the script
 unfoldable pub arguments : List (List ℕ) → List ℕ
 arguments [] = []
 arguments (w ∷ ws) = littleEndian (number w) ++ arguments ws
 
--- a line's record: "A line without words is skipped."
+-- a line's record, which is none where there are no words
 unfoldable pub recordOf : List (List ℕ) → List ℕ
 recordOf [] = []
 recordOf (w ∷ ws) = littleEndian (callNumber w) ++ arguments ws
@@ -30,7 +30,8 @@ unfoldable pub callsIn : List (List ℕ) → ℕ
 callsIn [] = 0
 callsIn (w ∷ ws) = 1
 
--- why the line can't be read: "Order within a call line: 2, then 3 or 4, then 5, then 6." 0 where it can; `at` is where its record would start
+-- why the line can't be read, or 0: "Order within a call line: 2, then 3 or 4, then 5, then 6." Its record would start at byte `at`.
+-- "A line without words is skipped."
 unfoldable pub reason : ℕ → List (List ℕ) → ℕ
 reason at [] = 0
 reason at (w ∷ ws) =
