@@ -1,0 +1,12 @@
+pub mod Cuts
+pub mod Splits
+pub mod Values
+pub mod Called
+pub mod Reasons
+pub mod Records
+pub mod Runs
+pub mod Pages
+pub mod Answers
+pub mod Words
+pub mod Recorded
+pub mod ReadBack

@@ -1,0 +1,63 @@
+-- `assembly::parts::find` meets its contract. The bytes passed are none of them b. The measure is what is left. Assumes nothing.
+use mathlib.Core.Path.{_≡_}
+use Prim.Native.Nat.{_+_, _-_, _≤_}
+use native.Mathlib.Omega.{arith}
+use lib.ListN.{length, drop}
+use borrow.Author.Needs.{needs}
+use Rattle.assembly.specs.Text.{before}
+use Rattle.assembly.proofs.Cuts.{found, passed, missing}
+use Rattle.assembly.proofs.parts.find.Statement.{statement}
+use Rattle.assembly.proofs.parts.find.Tie as tie
+
+abbrev Inv-loop : tie.InvT-loop
+Inv-loop s b i₀ i = (i ≤ length s) × (length (before b s) ≡ i + length (before b (drop i s)))
+
+abbrev μ-loop : tie.MeasureT-loop
+μ-loop s b i₀ i = length s - i
+
+loop-holds : tie.Need-loop-holds Inv-loop μ-loop
+loop-holds c = (search needs, omega arith)
+
+shared-slice-read-if1 : tie.Need-shared-slice-read-if1 Inv-loop μ-loop
+shared-slice-read-if1 c = search needs
+
+returns : tie.Need-returns Inv-loop μ-loop
+returns c =
+    omega (
+      arith,
+      found (c .before .before .before .before .args .s .now) (c .before .before .before .before .args .b) (c .before .before .before .loop .i)
+          (c .before .before .loop-test .taken) (c .if1 .taken),
+    )
+
+add-i : tie.Need-add-i Inv-loop μ-loop
+add-i c = search needs
+
+loop-less : tie.Need-loop-less Inv-loop μ-loop
+loop-less c = search needs
+
+loop-again : tie.Need-loop-again Inv-loop μ-loop
+loop-again c = (
+  search needs,
+  omega (
+    arith,
+    passed (c .before .before .before .before .args .s .now) (c .before .before .before .before .args .b) (c .before .before .before .loop .i)
+        (c .before .before .loop-test .taken) (c .if1 .left),
+  ),
+)
+
+returns-2 : tie.Need-returns-2 Inv-loop μ-loop
+returns-2 c = omega (arith, missing (c .before .before .args .s .now) (c .before .before .args .b) (c .before .loop .i) (omega arith))
+
+pub find-spec : {M : Type 1} → statement M
+find-spec =
+    tie.close
+    (tie.spec
+    Inv-loop
+    μ-loop
+    loop-holds
+    shared-slice-read-if1
+    returns
+    add-i
+    loop-less
+    loop-again
+    returns-2)

@@ -1,0 +1,57 @@
+-- `assembly::parts::next_word` meets its contract. First the blanks, then the letters. Assumes nothing.
+use borrow.Author.Needs.{needs}
+use Rattle.assembly.proofs.Splits.{next-is}
+use Rattle.assembly.proofs.parts.next_word.Statement.{statement}
+use Rattle.assembly.proofs.parts.next_word.Tie as tie
+
+sub-leading : tie.Need-sub-leading
+sub-leading c = search needs
+
+part-leading-start : tie.Need-part-leading-start
+part-leading-start c = search needs
+
+part-leading-end : tie.Need-part-leading-end
+part-leading-end c = search needs
+
+leading-requires : tie.Need-leading-requires
+leading-requires c κs = search needs
+
+add-a : tie.Need-add-a
+add-a c = search needs
+
+sub-leading-2 : tie.Need-sub-leading-2
+sub-leading-2 c = search needs
+
+part-leading-start-2 : tie.Need-part-leading-start-2
+part-leading-start-2 c = search needs
+
+part-leading-end-2 : tie.Need-part-leading-end-2
+part-leading-end-2 c = search needs
+
+leading-requires-2 : tie.Need-leading-requires-2
+leading-requires-2 c κs = search needs
+
+add-t12 : tie.Need-add-t12
+add-t12 c = search needs
+
+returns : tie.Need-returns
+returns c =
+    next-is (c .before .before .before .before .before .args .s .now) (c .before .before .before .before .before .args .i)
+    (c .before .before .leading .result) (c .leading2 .result) (c .before .before .before .before .before .pre) (c .before .before .leading .ensures .0)
+    (c .before .before .leading .ensures .1) (c .leading2 .ensures .0) (c .leading2 .ensures .1)
+
+pub next-word-spec : {M : Type 1} → statement M
+next-word-spec =
+    tie.close
+    (tie.spec
+    sub-leading
+    part-leading-start
+    part-leading-end
+    leading-requires
+    add-a
+    sub-leading-2
+    part-leading-start-2
+    part-leading-end-2
+    leading-requires-2
+    add-t12
+    returns)
