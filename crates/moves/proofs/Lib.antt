@@ -4,3 +4,4 @@ pub mod Tests
 pub mod Whole
 pub mod Parts
 pub mod Child
+pub mod OnePage
