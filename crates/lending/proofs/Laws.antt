@@ -13,7 +13,7 @@ use Rattle.rules.specs.Conditions.{child}
 use Rattle.rules.specs.Refusals.{refusals, refusal}
 use Rattle.rules.specs.Effects.{add, remove, effect}
 use Rattle.rules.specs.Calls.{result}
-use Rattle.access.proofs.Passed.{passed}
+use Rattle.rules.proofs.Rows.{passed}
 
 module _ (b : ℕ) (m : List ℕ) (p c t r : ℕ) where
   -- "number above 7" was not given

@@ -3,7 +3,7 @@ use mathlib.Core.Path.{refl, sym, _∙_}
 use borrow.Author.Needs.{needs}
 use Rattle.rules.specs.Calls.{result}
 use Rattle.rules.specs.Call.{deletePartition}
-use Rattle.moves.proofs.Whole.{answer-refused, after-refused, answer-done, after-done}
+use Rattle.moves.proofs.Whole.{refused, done}
 use Rattle.making.proofs.Few.{child-some, child-few}
 use Rattle.making.proofs.deleting.delete_partition.Statement.{statement}
 use Rattle.making.proofs.deleting.delete_partition.Tie as tie
@@ -20,10 +20,8 @@ same-length c = search needs
 returns : tie.Need-returns
 returns c =
     let s = c .before .before .before .before .before .args in
-    let r = c .before .before .delete-refusal in (
-      c .reply .ensures ∙ answer-refused (s .b) (s .m .now) (deletePartition (s .c)) (r .result) (r .ensures .0) 0 (c .before .if1 .taken),
-      after-refused (s .b) (s .m .now) (deletePartition (s .c)) (r .result) (r .ensures .0) (c .before .if1 .taken),
-    )
+    let r = c .before .before .delete-refusal in
+    refused (s .b) (s .m .now) (deletePartition (s .c)) (r .result) (r .ensures .0) 0 (c .reply .ensures) (c .before .if1 .taken)
 
 delete-effect-requires : tie.Need-delete-effect-requires
 delete-effect-requires c κs =
@@ -41,10 +39,8 @@ returns-2 : tie.Need-returns-2
 unfolding result
 returns-2 c =
     let s = c .before .before .before .before .before .before .before .before .before .args in
-    let r = c .before .before .before .before .before .before .delete-refusal in (
-      c .reply2 .ensures ∙ answer-done (s .b) (s .m .now) (deletePartition (s .c)) (r .result) (r .ensures .0) 0 refl (c .before .before .before .before .before .if1 .left),
-      c .before .before .before .delete-effect .ensures ∙ after-done (s .b) (s .m .now) (deletePartition (s .c)) (r .result) (r .ensures .0) (c .before .before .before .before .before .if1 .left),
-    )
+    let r = c .before .before .before .before .before .before .delete-refusal in
+    done (s .b) (s .m .now) (deletePartition (s .c)) (r .result) (r .ensures .0) 0 (c .reply2 .ensures) refl (c .before .before .before .delete-effect .ensures) (c .before .before .before .before .before .if1 .left)
 
 pub delete-partition-spec : {M : Type 1} → statement M
 delete-partition-spec =
