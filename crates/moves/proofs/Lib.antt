@@ -5,3 +5,4 @@ pub mod Whole
 pub mod Parts
 pub mod Child
 pub mod OnePage
+pub mod Caller
