@@ -1,4 +1,7 @@
 -- `making::groups::frame_at` meets its contract. The frame is that of the page of the word of partition d. Assumes nothing.
+use mathlib.Core.Path.{ap, _∙_}
+use Prim.Native.Nat.{ℕ}
+use Rattle.memory.specs.Geometry.{address, pageOf}
 use borrow.Author.Needs.{needs}
 use Rattle.making.proofs.groups.frame_at.Statement.{statement}
 use Rattle.making.proofs.groups.frame_at.Tie as tie
@@ -10,7 +13,9 @@ frame-requires : tie.Need-frame-requires
 frame-requires c κs = search needs
 
 returns : tie.Need-returns
-returns c = cc
+returns c =
+    let s = c .before .before .before .args in
+    c .frame .ensures .0 ∙ ap (λ (w : ℕ). address (s .b) (pageOf (s .b) w)) (c .before .mapping .ensures)
 
 pub frame-at-spec : {M : Type 1} → statement M
 frame-at-spec = tie.close (tie.spec mapping-requires frame-requires returns)
