@@ -75,7 +75,7 @@ module _ (b : ℕ) (m : List ℕ) where
   unfolding effect create descriptor made
   made-is p d s t l = refl
 
-  module _ (d x own w₀ w₄ p l : ℕ) (ws m₁ m₂ m₃ m₄ : List ℕ) where
+  module _ {d x own w₀ w₄ p l : ℕ} {ws m₁ m₂ m₃ m₄ : List ℕ} where
     pub effect-is : (v : List ℕ) → length v ≡ 5
         → d ≡ current b m → x ≡ word b m 0 4 → own ≡ address b (pageOf b x) → ws ≡ descriptor b m d own v
         → w₀ ≡ mapping b m d (getD v 0 0) → p ≡ pageOf b w₀ → w₄ ≡ mapping b m d (getD v 4 0) → l ≡ pageOf b w₄

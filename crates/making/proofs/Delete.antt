@@ -48,7 +48,7 @@ saved-part s t ws r e k h =
     let y : length ws ≤ length s = omega arith in
     ap₂ (λ (i : ℕ) (l : List ℕ). take i l) z e ∙ head-copy s ws y
 
-module _ (b : ℕ) (m : List ℕ) (c d k l n : ℕ) (xs ys m₁ m₂ m₃ m₄ : List ℕ) where
+module _ (b : ℕ) (m : List ℕ) (c : ℕ) {d k l n : ℕ} {xs ys m₁ m₂ m₃ m₄ : List ℕ} where
   pub effect-is : d ≡ current b m → k ≡ child b m c → l ≡ list b m k → n ≡ word b m l 0 - 1
       → xs ≡ take 10 (drop 0 (page b m k)) → ys ≡ take n (drop 1 (page b m l))
       → m₁ ≡ releaseAll b (pageWords b * pageWords b) 0 m d c → m₂ ≡ setLent b m₁ d c 0

@@ -21,4 +21,5 @@ pub use pages_moved::take_all;
 pub use pages_moved::take_page;
 pub use rows::child_refusal;
 pub use rows::page_refusal;
+pub use saved::frame_at;
 pub use saved::save;

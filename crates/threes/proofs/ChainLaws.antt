@@ -26,11 +26,11 @@ among-second x y z h = sym (or-false (eqb x z)) ∙ ap (λ (u : Bool). u || (eqb
 
 -- ---- the chain
 
-module _ (b : ℕ) (m : List ℕ) (p n : ℕ) (hn : n ≡ first (linked b m false p)) where
+module _ (b : ℕ) (m : List ℕ) (p : ℕ) {n : ℕ} (hn : n ≡ first (linked b m false p)) where
   pub stop-first : n ≢ 0 → n ≡ first (chain b m p)
   stop-first h = stops (linked b m false p) _ n hn h
 
-  module _ (z : n ≡ 0) (q n₂ : ℕ) (hq : q ≡ link b m p) (h₂ : n₂ ≡ first (linked b m (eqb q p) q)) where
+  module _ (z : n ≡ 0) {q n₂ : ℕ} (hq : q ≡ link b m p) (h₂ : n₂ ≡ first (linked b m (eqb q p) q)) where
     abbrev second : List Check
     second = linked b m (any (eqb (link b m p)) (p ∷ [])) (link b m p)
 
@@ -42,7 +42,7 @@ module _ (b : ℕ) (m : List ℕ) (p n : ℕ) (hn : n ≡ first (linked b m fals
     pub stop-second : n₂ ≢ 0 → n₂ ≡ first (chain b m p)
     stop-second h = stops second _ n₂ is-second h ∙ goes-on (linked b m false p) _ n hn z
 
-    module _ (z₂ : n₂ ≡ 0) (s n₃ : ℕ) (again : Bool) (hs : s ≡ link b m q) (ha : again ≡ any (eqb s) (p ∷ q ∷ [])) (h₃ : n₃ ≡ first (linked b m again s)) where
+    module _ (z₂ : n₂ ≡ 0) {s n₃ : ℕ} {again : Bool} (hs : s ≡ link b m q) (ha : again ≡ any (eqb s) (p ∷ q ∷ [])) (h₃ : n₃ ≡ first (linked b m again s)) where
       abbrev third : List Check
       third = linked b m (any (eqb (link b m (link b m p))) (p ∷ link b m p ∷ [])) (link b m (link b m p))
 
@@ -60,7 +60,7 @@ module _ (b : ℕ) (m : List ℕ) (p n : ℕ) (hn : n ≡ first (linked b m fals
       pub stop-third : n₃ ≢ 0 → n₃ ≡ first (chain b m p)
       stop-third h = stops third _ n₃ is-third h ∙ to-third _
 
-      module _ (z₃ : n₃ ≡ 0) (x : ℕ) (hx : x ≡ link b m s) where
+      module _ (z₃ : n₃ ≡ 0) {x : ℕ} (hx : x ≡ link b m s) where
         abbrev last : List Check
         last = CHAIN when not (eqb (link b m (link b m (link b m p))) 0) ∷ []
 
