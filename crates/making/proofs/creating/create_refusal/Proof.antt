@@ -1,4 +1,4 @@
--- `making::creating::create_refusal` meets its contract. Behind the checks that calls share, each test that the code makes is one of the row. Assumes nothing.
+-- `making::creating::create_refusal` meets its contract. Behind the shared checks, each test that the code makes is one of the row. Assumes nothing.
 use mathlib.Core.Path.{sym, _∙_}
 use native.Mathlib.Omega.{arith}
 use borrow.Author.Needs.{needs}

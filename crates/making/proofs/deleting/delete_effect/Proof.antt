@@ -1,4 +1,4 @@
--- `making::deleting::delete_effect` meets its contract. What each call leaves is what the definition has next; the words saved are those that the definition reads. Assumes nothing.
+-- `making::deleting::delete_effect` meets its contract. The words saved are those that the definition reads. Assumes nothing.
 use Prim.Native.Nat.{ℕ}
 use native.Mathlib.Omega.{arith}
 use borrow.Author.Needs.{needs}

@@ -1,4 +1,4 @@
--- `making::deleting::delete_partition` meets its contract. By whether there is a refusal. A child that is not refused lists ten threes at most. Assumes nothing.
+-- `making::deleting::delete_partition` meets its contract. A child that is not refused lists ten threes at most. Assumes nothing.
 use mathlib.Core.Path.{refl, sym, _∙_}
 use borrow.Author.Needs.{needs}
 use Rattle.rules.specs.Calls.{result}

@@ -1,4 +1,4 @@
--- `making::releases::release_run` meets its contract. To release the pages left, from the memory as it is, is to release them all. The measure is what is left. Assumes nothing.
+-- `making::releases::release_run` meets its contract. To release the pages left is to release them all. The measure is what is left. Assumes nothing.
 use mathlib.Core.List.{List}
 use mathlib.Core.Path.{_≡_, sym, _∙_, ap, ap₂}
 use Prim.Native.Nat.{_+_, _-_, _≤_, ℕ}

@@ -1,4 +1,4 @@
--- `threes::preparing::prepare_refusal` meets its contract. Behind the checks that calls share, each test that the code makes is one of the row. Assumes nothing.
+-- `threes::preparing::prepare_refusal` meets its contract. Behind the shared checks, each test that the code makes is one of the row. Assumes nothing.
 use mathlib.Core.Bool.{not}
 use mathlib.Core.Path.{subst, sym, ap, _∙_}
 use Prim.Native.Nat.{ℕ}
