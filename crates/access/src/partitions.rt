@@ -11,24 +11,6 @@ ghost use Rattle.rules.specs.Calls.{answer, after};
 ghost use Rattle.pages.specs.Width.{Width};
 ghost use Rattle.answers.specs.Said.{said};
 
-// 1 3 5
-fn enter_refusal(b: u32, m: &[u32], good: bool, c: u32) -> u32
-    requires { ⌜ Width b ⌝ }
-    requires judged { ⌜ good ≡ soundTest b (now m) ⌝ }
-    ensures { λ r. ⌜ (r ≡ refusal b (now (m .entry)) (Call.enter c)) × (r ≤ 16) ⌝ }
-{
-    if !good {
-        return 1;
-    }
-    if pages::bad_page(b, c) {
-        return 3;
-    }
-    if moves::no_child(b, m, c) {
-        return 5;
-    }
-    0
-}
-
 // "current is child"
 fn enter_effect(b: u32, m: &mut [u32], c: u32)
     requires { ⌜ Width b ⌝ }
@@ -38,12 +20,13 @@ fn enter_effect(b: u32, m: &mut [u32], c: u32)
     pages::write_word(b, m, PhysicalPage(0), 4, pages::frame(b, w));
 }
 
+// 1 3 5
 pub fn enter(b: u32, m: &mut [u32], good: bool, c: u32) -> Answer
     requires { ⌜ Width b ⌝ }
     requires judged { ⌜ good ≡ soundTest b (now m) ⌝ }
     ensures { λ r. ⌜ (said r ≡ answer b (now (m .entry)) (Call.enter c)) × (now (m .exit) ≡ after b (now (m .entry)) (Call.enter c)) ⌝ }
 {
-    let n = enter_refusal(b, m, good, c);
+    let n = moves::child_refusal(b, m, good, &[c], c);
     if n != 0 {
         return answers::reply(n, 0);
     }

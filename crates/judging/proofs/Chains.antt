@@ -10,10 +10,10 @@ use Rattle.memory.specs.Partition.{pages, list, mapping, lent, above}
 use Rattle.memory.specs.Tree.{Has, Child, InTree, root, child}
 use Rattle.memory.specs.Uses.{Way, five, listed, inHand, UsedBy}
 use Rattle.memory.specs.Sound as S
+use Rattle.soundness.proofs.Root.{root-flat, root-place, root-five, root-threes, root-listed}
 use Rattle.soundness.proofs.Whole.{spot-use}
 use Rattle.judging.proofs.Local.{Local, above-has, kernel-has}
 use Rattle.judging.proofs.KernelCount.{five-page, listed-page}
-use Rattle.judging.proofs.Root.{root-flat, root-place, root-five, root-listed}
 
 module _ (b : ℕ) (m : List ℕ) where
   -- a mapping of page p that is not lent
@@ -55,8 +55,10 @@ module _ (b : ℕ) (m : List ℕ) where
 
       used-unlent : {k d : ℕ} → InTree b m k d → (w : Way) (p : ℕ) → UsedBy b m d w p → 5 + 3 * threesFor b (pages b m) < p → Unlent p
       used-unlent {k} {d} t (inHand v) p (h, n, _, l, e) f = record { depth = k; part = d; at = v; tree = t; has = h; present = n; page = e; free = omega arith }
-      used-unlent root (five j) p (h, e) f = absurd (omega (arith, root-five b m (s .rootAsFormatted) (s .forms 0 1 root .list) big j h))
-      used-unlent root (listed j) p (h, e) f = absurd (omega (arith, root-listed b m (s .rootAsFormatted) (s .forms 0 1 root .list) big j h))
+      used-unlent root (five j) p (h, e) f = absurd (omega (arith, root-five b m (s .rootAsFormatted) big j h))
+      used-unlent root (listed j) p (h, e) f =
+          let l = s .forms 0 1 root .list in
+          absurd (omega (arith, root-listed b m (s .rootAsFormatted) big l j h, root-threes b m (s .rootAsFormatted) big l))
       used-unlent (child {k = k} {d = d} {v = v} {c = c} t a) (five j) p (h, e) f =
           kernel-unlent t a (word b m c (2 * j)) p (inl (j, h, refl)) (five-page b m (s .children k d t .right v c a) j h ∙ e)
       used-unlent (child {k = k} {d = d} {v = v} {c = c} t a) (listed j) p (h, e) f =

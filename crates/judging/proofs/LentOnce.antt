@@ -16,9 +16,10 @@ use Rattle.memory.specs.Partition.{mapping, lent, above}
 use Rattle.memory.specs.Tree.{Has, Child, InTree, root, child}
 use Rattle.memory.specs.Counts as C
 use Rattle.soundness.proofs.Places.{tabled-once}
+use Rattle.soundness.proofs.Whole.{child-far}
 use Rattle.judging.specs.Quick as Q
 use Rattle.judging.proofs.Lengths.{no-more, same-length, image-inj}
-use Rattle.judging.proofs.Local.{Local, MapsFrom, Back, kept, above-has, child-far}
+use Rattle.judging.proofs.Local.{Local, MapsFrom, Back, kept, above-has}
 use Rattle.judging.proofs.Chains.{Unlent, Below, here, step, unlent-of, root-below}
 
 two : {P : ℕ → Type 0} → One P → (u w : ℕ) → P u → P w → u ≡ w
@@ -74,7 +75,7 @@ module _ (b : ℕ) (m : List ℕ) where
 
   module _ (s : Local b m) where
     lent-mapped : {k d v c : ℕ} → InTree b m k d → Child b m d v c → (x : ℕ) → Has b m d x → lent b m d x ≡ v → mapping b m d x ≢ 0
-    lent-mapped t a x h e n = omega (arith, s .absent t x h n .0, child-far b m s t a)
+    lent-mapped {k} {d} t a x h e n = omega (arith, s .absent t x h n .0, child-far b m (s .forms k d t .none) a)
 
     module _ {k d v c : ℕ} (t : InTree b m k d) (a : Child b m d v c) where
       -- d has one child at v
@@ -83,7 +84,7 @@ module _ (b : ℕ) (m : List ℕ) where
 
       -- from a page lent to c a chain goes on in c
       next : {x e y : ℕ} → Below b m d x e y → lent b m d x ≡ v → lent b m e y ≤ 1 → Under c x e y
-      next here q l = absurd (omega (arith, child-far b m s t a))
+      next here q l = absurd (omega (arith, child-far b m (s .forms k d t .none) a))
       next {x} {e} {y} (step {u = u} g h n z r) q l =
           let i = same-child g (sym (s .down t g u h n .names) ∙ ap (lent b m d) z ∙ q) in
           subst (λ (o : ℕ). Under o x e y) i (record { at = u; from = (h, (n, z)); rest = r })
@@ -133,7 +134,7 @@ module _ (b : ℕ) (m : List ℕ) where
       where
         one : (x : ℕ) → Has b m d x → lent b m d x ≡ v → One (MapsFrom b m c x)
         one x h e =
-            let (f, g, o) = back x h (lent-mapped t a x h e, omega (arith, child-far b m s t a)) in
+            let (f, g, o) = back x h (lent-mapped t a x h e, omega (arith, child-far b m (s .forms k d t .none) a)) in
             subst (λ (z : ℕ). One (MapsFrom b m z x)) (same-child t a g e) o
 
         source-lent : (u : ℕ) → 0 < count u (mappedAt c) → Has b m d (above b m c u) × (lent b m d (above b m c u) ≡ v)

@@ -2,7 +2,6 @@ pub mod Lengths
 pub mod Cells
 pub mod Local
 pub mod KernelCount
-pub mod Root
 pub mod Chains
 pub mod LentOnce
 pub mod FromCells

@@ -4,7 +4,6 @@ use mathlib.Core.List.{List}
 use mathlib.Core.Bool.{Bool}
 use mathlib.Core.Logic.{_≢_, _↔_, inl, inr}
 use Prim.Native.Nat.{ℕ, suc, _≤_, _<_}
-use native.Mathlib.Omega.{arith}
 use Rattle.walk.specs.Lists.{count}
 use Rattle.walk.specs.Reflect.{Tells}
 use Rattle.walk.specs.Finite.{One, keep, keep-in}
@@ -69,9 +68,3 @@ module _ (b : ℕ) (m : List ℕ) where
         virtual : S.KernelAddress b m c x → Virtual b x
         virtual (inl (j, h, e)) = subst (Virtual b) e (s .forms (suc k) c (child t a) .descriptor .pairs j h .0)
         virtual (inr (j, h, e)) = subst (Virtual b) e (s .forms (suc k) c (child t a) .list .pairs j h .0)
-
-    -- a child does not stand at 0, nor at 1, which is no page's address
-    pub child-far : {k d v c : ℕ} → InTree b m k d → Child b m d v c → 1 < v
-    child-far {k} {d} {v} t a =
-        let n : v ≢ 0 = λ e. a .present (ap (mapping b m d) e ∙ s .forms k d t .none) in
-        omega (arith, a .has .virtual .0)

@@ -16,11 +16,9 @@ fn add_refusal(b: u32, m: &[u32], good: bool, p: u32, c: u32, t: u32, r: u32) ->
     requires judged { ⌜ good ≡ soundTest b (now m) ⌝ }
     ensures { λ x. ⌜ (x ≡ refusal b (now (m .entry)) (addVAddr p c t r)) × (x ≤ 16) ⌝ }
 {
-    if !good {
-        return 1;
-    }
-    if moves::any_bad(b, &[p, c, t]) {
-        return 3;
+    let n = moves::page_refusal(b, m, good, &[p, c, t]);
+    if n != 0 {
+        return n;
     }
     if r > 7 {
         return 6;

@@ -15,11 +15,9 @@ fn mapped_refusal(b: u32, m: &[u32], good: bool, p: u32) -> u32
     requires judged { ⌜ good ≡ soundTest b (now m) ⌝ }
     ensures { λ r. ⌜ (r ≡ refusal b (now (m .entry)) (mappedInChild p)) × (r ≤ 16) ⌝ }
 {
-    if !good {
-        return 1;
-    }
-    if pages::bad_page(b, p) {
-        return 3;
+    let n = moves::page_refusal(b, m, good, &[p]);
+    if n != 0 {
+        return n;
     }
     if moves::unmapped(b, m, pages::current(b, m), p) {
         return 15;

@@ -18,14 +18,9 @@ fn remove_refusal(b: u32, m: &[u32], good: bool, c: u32, t: u32) -> u32
     requires judged { ⌜ good ≡ soundTest b (now m) ⌝ }
     ensures { λ r. ⌜ (r ≡ refusal b (now (m .entry)) (removeVAddr c t)) × (r ≤ 16) ⌝ }
 {
-    if !good {
-        return 1;
-    }
-    if moves::any_bad(b, &[c, t]) {
-        return 3;
-    }
-    if moves::no_child(b, m, c) {
-        return 5;
+    let n = moves::child_refusal(b, m, good, &[c, t], c);
+    if n != 0 {
+        return n;
     }
     let k = moves::child_of(b, m, c);
     if moves::no_three(b, m, k, t) {

@@ -1,7 +1,7 @@
 -- createPartition, in the terms of the functions that it calls. Assumes nothing.
-use mathlib.Core.Path.{_≡_, refl, sym, ap, _∙_, subst}
+use mathlib.Core.Path.{_≡_, refl, ap, _∙_, subst}
 use mathlib.Core.Bool.{true, false}
-use mathlib.Core.List.{List, [], _∷_}
+use mathlib.Core.List.{List, [], _∷_, _++_}
 use Prim.Native.Nat.{ℕ, _≤_, _<_}
 use native.Mathlib.Omega.{arith}
 use borrow.Author.Tests.{le-leb, lt-leb}
@@ -12,14 +12,14 @@ use Rattle.memory.specs.Geometry.{address, pageOf}
 use Rattle.memory.specs.Words.{word, put, fill}
 use Rattle.memory.specs.Entry.{writeRight}
 use Rattle.memory.specs.Partition.{current, mapping, setLent}
-use Rattle.rules.specs.Refusal.{DAMAGED, ADDRESS, TWICE, HAND, RIGHTS, DEPTH}
-use Rattle.rules.specs.Row.{Check, _when_}
+use Rattle.rules.specs.Refusal.{TWICE, HAND, RIGHTS, DEPTH}
+use Rattle.rules.specs.Row.{Check, _when_, first}
 use Rattle.rules.specs.Call.{createPartition}
 use Rattle.rules.specs.Moves.{takeAll, depth}
-use Rattle.rules.specs.Conditions.{twice, damaged, badPage, lacks, notInHand, tooDeep}
+use Rattle.rules.specs.Conditions.{twice, lacks, notInHand, tooDeep}
 use Rattle.rules.specs.Refusals.{refusals, refusal}
 use Rattle.rules.specs.Effects.{create, effect}
-use Rattle.rules.proofs.Rows.{First, first-is}
+use Rattle.moves.specs.Rows.{pageChecks}
 use Rattle.making.specs.Group.{creating, descriptor}
 
 -- what is said of five numbers written out is said of a list of five
@@ -35,13 +35,13 @@ five-elim F f (p ∷ d ∷ s ∷ t ∷ l ∷ x ∷ xs) e = absurd (omega arith)
 -- the refusals, of the five as one group
 abbrev row : ℕ → List ℕ → List ℕ → List Check
 row b m five =
-    DAMAGED when damaged b m ∷ ADDRESS when any (badPage b) five ∷ TWICE when twice five ∷ HAND when any (notInHand b m) five
-    ∷ RIGHTS when any (lacks b writeRight m) five ∷ DEPTH when tooDeep b m ∷ []
+    pageChecks b m five
+    ++ (TWICE when twice five ∷ HAND when any (notInHand b m) five ∷ RIGHTS when any (lacks b writeRight m) five ∷ DEPTH when tooDeep b m ∷ [])
 
 module _ (b : ℕ) (m : List ℕ) where
-  pub refusal-is : (five : List ℕ) → length five ≡ 5 → {r : ℕ} → First (row b m five) r → r ≡ refusal b m (creating five)
+  pub refusal-is : (five : List ℕ) → length five ≡ 5 → {r : ℕ} → r ≡ first (row b m five) → r ≡ refusal b m (creating five)
   unfolding refusals
-  refusal-is five e {r} = five-elim (λ v. First (row b m v) r → r ≡ refusal b m (creating v)) (λ p d s t l h. sym (first-is h)) five e
+  refusal-is five e {r} = five-elim (λ v. r ≡ first (row b m v) → r ≡ refusal b m (creating v)) (λ p d s t l h. h) five e
 
   pub deep : (x d : ℕ) → x ≡ depth b 8 m d → d ≡ current b m → 8 ≤ x → tooDeep b m ≡ true
   deep x d e f h = subst (λ (y : ℕ). leb 8 y ≡ true) (e ∙ ap (λ (z : ℕ). depth b 8 m z) f) (le-leb 8 x h)
@@ -75,7 +75,7 @@ module _ (b : ℕ) (m : List ℕ) where
   unfolding effect create descriptor made
   made-is p d s t l = refl
 
-  module _ (d x own w₀ w₄ p l : ℕ) (ws m₁ m₂ m₃ m₄ : List ℕ) where
+  module _ {d x own w₀ w₄ p l : ℕ} {ws m₁ m₂ m₃ m₄ : List ℕ} where
     pub effect-is : (v : List ℕ) → length v ≡ 5
         → d ≡ current b m → x ≡ word b m 0 4 → own ≡ address b (pageOf b x) → ws ≡ descriptor b m d own v
         → w₀ ≡ mapping b m d (getD v 0 0) → p ≡ pageOf b w₀ → w₄ ≡ mapping b m d (getD v 4 0) → l ≡ pageOf b w₄

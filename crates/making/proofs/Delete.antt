@@ -8,20 +8,11 @@ use lib.ListN.{length, getD, take, drop, drop-of-length-le}
 use Rattle.memory.specs.Geometry.{pageWords}
 use Rattle.memory.specs.Words.{page, word, overwrite}
 use Rattle.memory.specs.Partition.{current, list, setLent}
-use Rattle.rules.specs.Refusal.{DAMAGED, ADDRESS, CHILD}
-use Rattle.rules.specs.Row.{_when_}
 use Rattle.rules.specs.Call.{deletePartition}
 use Rattle.rules.specs.Moves.{returnPage, returnAll}
-use Rattle.rules.specs.Conditions.{damaged, badPage, noChild, child}
-use Rattle.rules.specs.Refusals.{refusals, refusal}
+use Rattle.rules.specs.Conditions.{child}
 use Rattle.rules.specs.Effects.{evens, releaseAll, delete, effect}
-use Rattle.rules.proofs.Rows.{First, first-is}
 use Rattle.moves.proofs.Parts.{head-copy}
-
-pub refusal-is : (b : ℕ) (m : List ℕ) (c : ℕ) {r : ℕ} → First (DAMAGED when damaged b m ∷ ADDRESS when badPage b c ∷ CHILD when noChild b m c ∷ []) r
-    → r ≡ refusal b m (deletePartition c)
-unfolding refusals
-refusal-is b m c h = sym (first-is h)
 
 -- ---- the first word of each pair
 
@@ -57,7 +48,7 @@ saved-part s t ws r e k h =
     let y : length ws ≤ length s = omega arith in
     ap₂ (λ (i : ℕ) (l : List ℕ). take i l) z e ∙ head-copy s ws y
 
-module _ (b : ℕ) (m : List ℕ) (c d k l n : ℕ) (xs ys m₁ m₂ m₃ m₄ : List ℕ) where
+module _ (b : ℕ) (m : List ℕ) (c : ℕ) {d k l n : ℕ} {xs ys m₁ m₂ m₃ m₄ : List ℕ} where
   pub effect-is : d ≡ current b m → k ≡ child b m c → l ≡ list b m k → n ≡ word b m l 0 - 1
       → xs ≡ take 10 (drop 0 (page b m k)) → ys ≡ take n (drop 1 (page b m l))
       → m₁ ≡ releaseAll b (pageWords b * pageWords b) 0 m d c → m₂ ≡ setLent b m₁ d c 0

@@ -10,7 +10,7 @@ use Rattle.soundness.specs.Test.{soundTest}
 use Rattle.rules.specs.Call.{deletePartition}
 use Rattle.rules.specs.Conditions.{badPage, noChild, child}
 use Rattle.rules.specs.Refusals.{refusals, refusal}
-use Rattle.rules.proofs.steps.Checks.{passed}
+use Rattle.rules.proofs.Rows.{passed}
 use Rattle.moves.proofs.Child.{good-some, few-listed}
 
 module _ (b : ℕ) (m : List ℕ) (c : ℕ) (e : refusal b m (deletePartition c) ≡ 0) where

@@ -21,11 +21,9 @@ fn create_refusal(b: u32, m: &[u32], good: bool, five: [u32; 5]) -> u32
     requires judged { ⌜ good ≡ soundTest b (now m) ⌝ }
     ensures { λ r. ⌜ (r ≡ refusal b (now (m .entry)) (creating five)) × (r ≤ 16) ⌝ }
 {
-    if !good {
-        return 1;
-    }
-    if moves::any_bad(b, &five) {
-        return 3;
+    let n = moves::page_refusal(b, m, good, &five);
+    if n != 0 {
+        return n;
     }
     if twice(&five) {
         return 4;

@@ -10,29 +10,10 @@ ghost use Rattle.soundness.specs.Test.{soundTest};
 ghost use Rattle.rules.specs.Call.{deletePartition};
 ghost use Rattle.rules.specs.Moves.{returnAll};
 ghost use Rattle.rules.specs.Conditions.{child};
-ghost use Rattle.rules.specs.Refusals.{refusal};
 ghost use Rattle.rules.specs.Effects.{evens, effect};
 ghost use Rattle.rules.specs.Calls.{answer, after};
 ghost use Rattle.pages.specs.Width.{Width};
 ghost use Rattle.answers.specs.Said.{said};
-
-// The number of the first refusal, or 0: 1 3 5.
-fn delete_refusal(b: u32, m: &[u32], good: bool, c: u32) -> u32
-    requires { ⌜ Width b ⌝ }
-    requires judged { ⌜ good ≡ soundTest b (now m) ⌝ }
-    ensures { λ r. ⌜ (r ≡ refusal b (now (m .entry)) (deletePartition c)) × (r ≤ 16) ⌝ }
-{
-    if !good {
-        return 1;
-    }
-    if pages::bad_page(b, c) {
-        return 3;
-    }
-    if moves::no_child(b, m, c) {
-        return 5;
-    }
-    0
-}
 
 // How many words of the list page l are in use, behind word 0.
 fn listed_words(b: u32, m: &[u32], l: PhysicalPage) -> u32
@@ -80,13 +61,13 @@ fn delete_effect(b: u32, m: &mut [u32], c: u32)
     return_evens(b, m, d, &threes[0..y]);
 }
 
-// 2. The child stands at address c of the caller; good says whether the memory is sound.
+// 2. The child stands at address c of the caller; good says whether the memory is sound. Refusals 1 3 5.
 pub fn delete_partition(b: u32, m: &mut [u32], good: bool, c: u32) -> Answer
     requires { ⌜ Width b ⌝ }
     requires judged { ⌜ good ≡ soundTest b (now m) ⌝ }
     ensures { λ r. ⌜ (said r ≡ answer b (now (m .entry)) (deletePartition c)) × (now (m .exit) ≡ after b (now (m .entry)) (deletePartition c)) ⌝ }
 {
-    let n = delete_refusal(b, m, good, c);
+    let n = moves::child_refusal(b, m, good, &[c], c);
     if n != 0 {
         return answers::reply(n, 0);
     }

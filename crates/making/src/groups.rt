@@ -5,8 +5,6 @@ ghost use Prim.Native.Nat.{_≤_};
 ghost use lib.Dec.{eqb};
 ghost use lib.ListN.{length, drop};
 ghost use Rattle.walk.specs.Finite.{any};
-ghost use Rattle.memory.specs.Geometry.{address, pageOf};
-ghost use Rattle.memory.specs.Partition.{mapping};
 ghost use Rattle.rules.specs.Conditions;
 ghost use Rattle.rules.specs.Conditions.{notInHand, lacks};
 ghost use Rattle.pages.specs.Width.{Width};
@@ -71,24 +69,16 @@ pub fn any_lacks(b: u32, r: u32, m: &[u32], vs: &[u32]) -> bool
     false
 }
 
-// The physical address of the page at address a of partition d.
-fn frame_at(b: u32, m: &[u32], d: PhysicalPage, a: u32) -> u32
-    requires { ⌜ Width b ⌝ }
-    ensures { λ r. ⌜ r ≡ address b (pageOf b (mapping b (now (m .entry)) (d .0) a)) ⌝ }
-{
-    pages::frame(b, pages::mapping(b, m, d, a))
-}
-
 // The twelve words of the descriptor of a new child of d, whose own address is own.
 pub fn descriptor_words(b: u32, m: &[u32], d: PhysicalPage, own: u32, five: [u32; 5]) -> [u32; 12]
     requires { ⌜ Width b ⌝ }
     ensures { λ r. ⌜ r ≡ descriptor b (now (m .entry)) (d .0) own five ⌝ }
 {
-    let a0 = frame_at(b, m, d, five[0]);
-    let a1 = frame_at(b, m, d, five[1]);
-    let a2 = frame_at(b, m, d, five[2]);
-    let a3 = frame_at(b, m, d, five[3]);
-    let a4 = frame_at(b, m, d, five[4]);
+    let a0 = moves::frame_at(b, m, d, five[0]);
+    let a1 = moves::frame_at(b, m, d, five[1]);
+    let a2 = moves::frame_at(b, m, d, five[2]);
+    let a3 = moves::frame_at(b, m, d, five[3]);
+    let a4 = moves::frame_at(b, m, d, five[4]);
     [
         five[0],
         a0,

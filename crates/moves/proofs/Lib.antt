@@ -4,3 +4,5 @@ pub mod Tests
 pub mod Whole
 pub mod Parts
 pub mod Child
+pub mod OnePage
+pub mod Caller

@@ -1,12 +1,12 @@
-// What several calls do and ask: pages taken and returned, the walk up the ancestors, and the conditions of refusals.
+// What several calls do and ask: pages taken and returned, the walk up the ancestors, the conditions of refusals and how rows of them begin.
 pub mod ancestors;
 pub mod conditions;
 pub mod pages_moved;
+pub mod rows;
 pub mod saved;
 
 pub use ancestors::depth;
 pub use ancestors::mark;
-pub use conditions::any_bad;
 pub use conditions::child_of;
 pub use conditions::inaccessible;
 pub use conditions::lacks;
@@ -19,4 +19,7 @@ pub use pages_moved::return_all;
 pub use pages_moved::return_page;
 pub use pages_moved::take_all;
 pub use pages_moved::take_page;
+pub use rows::child_refusal;
+pub use rows::page_refusal;
+pub use saved::frame_at;
 pub use saved::save;

@@ -1,10 +1,11 @@
 -- A row of refusals, gone through test by test. Assumes nothing.
 use mathlib.Core.Path.{_≡_, refl, sym, ap, _∙_}
 use mathlib.Core.Logic.{_≢_}
-use mathlib.Core.List.{List, [], _∷_}
+use mathlib.Core.List.{List, [], _∷_, _++_}
 use mathlib.Core.Bool.{Bool, true, false, cond}
 use Prim.Native.Nat.{ℕ, zero, suc}
-use Rattle.rules.specs.Refusal.{Refusal, number}
+use native.Mathlib.Omega.{arith}
+use Rattle.rules.specs.Refusal.{Refusal, number, DAMAGED, SIZE, ADDRESS, TWICE, CHILD, RIGHTS, HAND, TABLE, TAKEN, LIST, CHAIN, FULL-TABLE, DEPTH, ROOT, UNMAPPED, KERNEL, SHORT, MAGIC}
 use Rattle.rules.specs.Row.{Check, _when_, first, reply, pass, ok, no}
 use Rattle.rules.specs.Call.{Call}
 use Rattle.rules.specs.Refusals.{refusals}
@@ -21,6 +22,73 @@ unfolding first
 first-is none = refl
 first-is (on {n = n} {cs = cs} e h) = ap (λ (u : Bool). cond u (number n) (first cs)) e ∙ first-is h
 first-is (at {n = n} {cs = cs} e) = ap (λ (u : Bool). cond u (number n) (first cs)) e
+
+-- what a row comes to, as its first test that holds
+pub first-self : (cs : List Check) → First cs (first cs)
+unfolding first
+first-self [] = none
+first-self (n when true ∷ cs) = at refl
+first-self (n when false ∷ cs) = on refl (first-self cs)
+
+-- ---- a row that comes to 0
+
+number-some : (r : Refusal) → number r ≢ 0
+number-some DAMAGED = omega arith
+number-some SIZE = omega arith
+number-some ADDRESS = omega arith
+number-some TWICE = omega arith
+number-some CHILD = omega arith
+number-some RIGHTS = omega arith
+number-some HAND = omega arith
+number-some TABLE = omega arith
+number-some TAKEN = omega arith
+number-some LIST = omega arith
+number-some CHAIN = omega arith
+number-some FULL-TABLE = omega arith
+number-some DEPTH = omega arith
+number-some ROOT = omega arith
+number-some UNMAPPED = omega arith
+number-some KERNEL = omega arith
+number-some SHORT = omega arith
+number-some MAGIC = omega arith
+
+-- the first test is false, and so are those behind it
+pub clear : (r : Refusal) (t : Bool) (cs : List Check) → first (r when t ∷ cs) ≡ 0 → (t ≡ false) × (first cs ≡ 0)
+unfolding first
+clear r true cs e = absurd (number-some r e)
+clear r false cs e = (refl, e)
+
+-- every test is false
+abbrev pub Passed : List Check → Type 0
+Passed [] = Unit {0}
+Passed (r when t ∷ cs) = (t ≡ false) × Passed cs
+
+pub passed : (cs : List Check) → first cs ≡ 0 → Passed cs
+passed [] e = tt
+passed (r when t ∷ cs) e = let x = clear r t cs e in (x .0, passed cs (x .1))
+
+-- ---- a row that goes on in another: n is what the first row comes to
+
+first-stop : (xs ys : List Check) → first xs ≢ 0 → first (xs ++ ys) ≡ first xs
+unfolding first
+first-stop [] ys h = absurd (h refl)
+first-stop (r when true ∷ xs) ys h = refl
+first-stop (r when false ∷ xs) ys h = first-stop xs ys h
+
+first-more : (xs ys : List Check) → first xs ≡ 0 → first (xs ++ ys) ≡ first ys
+unfolding first
+first-more [] ys e = refl
+first-more (r when true ∷ xs) ys e = absurd (number-some r e)
+first-more (r when false ∷ xs) ys e = first-more xs ys e
+
+module _ (xs ys : List Check) (n : ℕ) (is : n ≡ first xs) where
+  pub stops : n ≢ 0 → n ≡ first (xs ++ ys)
+  stops h = is ∙ sym (first-stop xs ys (λ e. h (is ∙ e)))
+
+  pub goes-on : n ≡ 0 → first ys ≡ first (xs ++ ys)
+  goes-on z = sym (first-more xs ys (sym is ∙ z))
+
+-- ---- a call by what its row comes to
 
 module _ (b : ℕ) (m : List ℕ) (c : Call) where
   pub answer-no : (n : ℕ) → First (refusals b m c) (suc n) → answer b m c ≡ no (suc n)

@@ -1,9 +1,11 @@
 pub mod Base
 pub mod Words
 pub mod Abs
+pub mod Apart
 pub mod Facts
 pub mod Read
 pub mod Cells
+pub mod Alike
 pub mod Names
 pub mod Roles
 pub mod Walk

@@ -3,16 +3,14 @@ use mathlib.Core.Path.{_≡_, refl, sym, ap, _∙_, subst}
 use mathlib.Core.List.{List}
 use mathlib.Core.Bool.{true}
 use mathlib.Core.Logic.{_≢_}
-use Prim.Native.Nat.{ℕ, zero, suc, _+_, _-_, _*_, _/_, _%_, _≤_, _<_}
+use Prim.Native.Nat.{ℕ, zero, suc, _+_, _*_, _≤_, _<_}
 use native.Mathlib.Omega.{arith}
-use native.Mathlib.Decide.{decLt}
 use lib.ListN.{getD}
-use borrow.Author.Tests.{eq-eqb, ne-eqb, le-leb}
+use borrow.Author.Tests.{eq-eqb}
 use Rattle.walk.specs.Tree as Tr
 use Rattle.walk.specs.Walk as W
-use Rattle.memory.specs.Geometry.{pageWords, address, pageOf, threesFor, flatPages, mostDepth}
+use Rattle.memory.specs.Geometry.{pageWords, address, pageOf, threesFor, mostDepth}
 use Rattle.memory.specs.Words.{word}
-use Rattle.memory.specs.Format.{formatWord, rootListWord}
 use Rattle.memory.specs.Partition.{pages, current, list, parent, threes, tableFor, tableWord, mapping, above}
 use Rattle.walk.specs.Reflect.{Tells, via, both}
 use Rattle.memory.specs.Sound as S
@@ -21,6 +19,7 @@ use Rattle.memory.specs.Uses.{Use, UsedBy, fivePages, Way, five, listed, inHand
 use Rattle.memory.specs.Counts as C
 use Rattle.soundness.specs.Test as T
 use Rattle.memory.proofs.Geometry.{page-address}
+use Rattle.soundness.proofs.Root.{root-flat, root-parent, root-own, root-listed}
 use Rattle.soundness.proofs.Agree.{header?, root?, ok?, Partition}
 use Rattle.soundness.proofs.Trees.{kids-to, kids-once, tree-to, to-tree, under-tree, tree-under, judged?}
 use Rattle.soundness.proofs.Used.{IsWay, way-of, of-way, same-way, same-place, own-self}
@@ -84,24 +83,19 @@ module _ (b : ℕ) (m : List ℕ) where
   unfolding tableWord
   mapped-has d v h n = record { virtual = h; table = λ e. n (rw (eq-eqb (tableFor b m d v) 0 e) refl) }
 
+  -- a child does not stand at 0, which maps nothing, nor at 1, which is no page's address
+  pub child-far : {d v c : ℕ} → mapping b m d 0 ≡ 0 → Child b m d v c → 1 < v
+  child-far {d} {v} e a =
+      let n : v ≢ 0 = λ q. a .present (ap (mapping b m d) q ∙ e) in
+      omega (arith, a .has .virtual .0)
+
   module _ (s : S.Sound b m) where
     pub above-has : {k d v c : ℕ} → InTree b m k d → Child b m d v c → (u : ℕ) → Has b m c u → mapping b m c u ≢ 0 → Has b m d (above b m c u)
     above-has {k} {d} {v} {c} t h u a n = mapped-has d (above b m c u) (s .forms (suc k) c (child t h) .tables u a .shadow2Word) (s .lending k d t .down v c h u a n .mapped)
 
-    -- the root maps at v the flat page of that number
-    pub root-flat : (v : ℕ) → Has b m 1 v → mapping b m 1 v ≢ 0
-        → (0 < pageOf b v) × (pageOf b (mapping b m 1 v) ≡ 5 + 3 * threesFor b (pages b m) + pageOf b v)
-    root-flat v h n = elim (decLt 0 (pageOf b v)) [
-      | yes p ↦ elim (decLt (flatPages b (pages b m)) (pageOf b v)) [
-        | yes q ↦ absurd (n (s .rootAsFormatted .only v h (λ (x, y). omega arith)))
-        | no q ↦ (p, s .rootAsFormatted .maps v h (omega arith, omega arith) .0)
-      ]
-      | no p ↦ absurd (n (s .rootAsFormatted .only v h (λ (x, y). omega arith)))
-    ]
-
     -- a page mapped in the tree is a flat page
     pub flat : {k d : ℕ} → InTree b m k d → (v : ℕ) → Has b m d v → mapping b m d v ≢ 0 → 5 + 3 * threesFor b (pages b m) < pageOf b (mapping b m d v)
-    flat root v h n = let (l, e) = root-flat v h n in omega (arith, l, e)
+    flat root v h n = let (l, e) = root-flat b m (s .rootAsFormatted) v h n in omega (arith, l, e)
     flat (child {k = k} {d = d} {v = v} {c = c} t a) u h n =
         let q = s .lending k d t .down v c a u h n in
         omega (arith, flat t (above b m c u) (above-has t a u h n) (q .mapped), q .page)
@@ -123,58 +117,14 @@ module _ (b : ℕ) (m : List ℕ) where
         omega (arith, flat t v (mapped-has d v h n) n, q)
 
     module _ (big : 61 ≤ pageWords b) where
-      root-word : (i : ℕ) → i < 61 → word b m 1 i ≡ formatWord b (pages b m) 1 i
-      root-word i h = s .rootAsFormatted .five 0 (omega arith) i (omega arith)
-
-      root-page : (i k : ℕ) → i < 61 → formatWord b (pages b m) 1 i ≡ address b k → pageOf b (word b m 1 i) ≡ k
-      root-page i k h e = ap (pageOf b) (root-word i h ∙ e) ∙ page-address b k
-
-      root-list : list b m 1 ≡ 5
-      unfolding formatWord
-      root-list = root-page 9 5 (omega arith) refl
-
-      root-parent : parent b m 1 ≡ 0
-      unfolding formatWord
-      root-parent = root-page 11 0 (omega arith) (omega arith)
-
-      pub root-threes : threes b m 1 ≡ threesFor b (pages b m)
-      unfolding formatWord
-      root-threes =
-          let e : word b m 5 0 ≡ 1 + 6 * threesFor b (pages b m) = s .rootAsFormatted .five 4 (omega arith) 0 (omega arith) in
-          let f : word b m (list b m 1) 0 ≡ 1 + 6 * threes b m 1 = s .forms 0 1 root .list .free in
-          let g : word b m (list b m 1) 0 ≡ word b m 5 0 = ap (λ (p : ℕ). word b m p 0) root-list in
-          omega (arith, e, f, g)
-
-      list-word : (n j : ℕ) → j < 3 * threesFor b n → rootListWord b n (2 + 2 * j) ≡ address b (5 + (2 + 2 * j) / 2)
-      list-word n j h =
-          rw (ne-eqb (2 + 2 * j) 0 (λ e. omega (arith, e)))
-          (rw (eq-eqb ((2 + 2 * j) % 2) 0 (omega arith))
-          (rw (le-leb (2 + 2 * j) (6 * threesFor b n) (omega arith)) refl))
-
-      root-listed : (j : ℕ) → j < 3 * threes b m 1 → 0 < pageOf b (word b m (list b m 1) (2 + 2 * j))
-      unfolding formatWord
-      root-listed j h =
-          let few : threes b m 1 ≤ 10 = s .forms 0 1 root .list .few in
-          let e : word b m 5 (2 + 2 * j) ≡ rootListWord b (pages b m) (2 + 2 * j) = s .rootAsFormatted .five 4 (omega arith) (2 + 2 * j) (omega arith) in
-          let g : word b m (list b m 1) (2 + 2 * j) ≡ word b m 5 (2 + 2 * j) = ap (λ (p : ℕ). word b m p (2 + 2 * j)) root-list in
-          let l : j < 3 * threesFor b (pages b m) = omega (arith, root-threes) in
-          let q : pageOf b (word b m (list b m 1) (2 + 2 * j)) ≡ 5 + (2 + 2 * j) / 2 = ap (pageOf b) (g ∙ e ∙ list-word (pages b m) j l) ∙ page-address b (5 + (2 + 2 * j) / 2) in
-          omega (arith, q)
-
       -- a descriptor's pages are not page 0
       own-pos : {k d : ℕ} → InTree b m k d → (j : ℕ) → j < 5 → 0 < pageOf b (word b m d (2 * j + 1))
-      unfolding formatWord
-      own-pos root zero h = omega (arith, root-page 1 1 (omega arith) refl)
-      own-pos root (suc zero) h = omega (arith, root-page 3 2 (omega arith) refl)
-      own-pos root (suc (suc zero)) h = omega (arith, root-page 5 3 (omega arith) refl)
-      own-pos root (suc (suc (suc zero))) h = omega (arith, root-page 7 4 (omega arith) refl)
-      own-pos root (suc (suc (suc (suc zero)))) h = omega (arith, root-page 9 5 (omega arith) refl)
-      own-pos root (suc (suc (suc (suc (suc j))))) h = absurd (omega arith)
+      own-pos root j h = omega (arith, root-own b m (s .rootAsFormatted) big j h)
       own-pos (child {k = k} {d = d} {v = v} {c = c} t a) j h =
           agreed t (word b m c (2 * j)) (word b m c (2 * j + 1)) (s .forms (suc k) c (child t a) .descriptor .pairs j h .0) (s .children k d t .right v c a .five j h)
 
       listed-pos : {k d : ℕ} → InTree b m k d → (j : ℕ) → j < 3 * threes b m d → 0 < pageOf b (word b m (list b m d) (2 + 2 * j))
-      listed-pos root j h = root-listed j h
+      listed-pos root j h = omega (arith, root-listed b m (s .rootAsFormatted) big (s .forms 0 1 root .list) j h)
       listed-pos (child {k = k} {d = d} {v = v} {c = c} t a) j h =
           agreed t (word b m (list b m c) (1 + 2 * j)) (word b m (list b m c) (2 + 2 * j)) (s .forms (suc k) c (child t a) .list .pairs j h .0) (s .children k d t .right v c a .listed j h)
 
@@ -195,7 +145,7 @@ module _ (b : ℕ) (m : List ℕ) where
       parents = W.by-parent (C.children b m) (T.own b m) (T.ok b m) 1 (parent b m)
           (λ k d c t h. let (v, a) = kids-to b m d c h in ap (pageOf b) (s .children k d (to-tree b m t) .right v c a .parent) ∙ page-address b d)
           (λ k d c t. kids-once b m d c (λ v a. s .children k d (to-tree b m t) .right v c a .stands))
-          (λ k d t e. let i = part-inside (to-tree b m t) in omega (arith, i .0, e, root-parent))
+          (λ k d t e. let i = part-inside (to-tree b m t) in omega (arith, i .0, e, root-parent b m (s .rootAsFormatted) big))
 
       inside : (p : ℕ) (x : Spot p) → (0 < p) × (p < pages b m)
       inside p x = let (u, e, i) = spot-use p x in used-inside (u .tree) (u .way) p (u .used)

@@ -1,44 +1,31 @@
 -- What sound memory says of the child at an address, where prepare or collect is not refused. Assumes nothing.
 use mathlib.Core.Path.{_≡_, refl, sym, ap, _∙_}
 use mathlib.Core.Logic.{_≢_}
-use mathlib.Core.Bool.{Bool, true, false, not, _||_, true≢false}
 use mathlib.Core.List.{List, [], _∷_}
-use Prim.Native.Nat.{ℕ, suc, _+_, _-_, _*_, _/_, _%_, _≤_, _<_}
-use native.Mathlib.Nat.{div-add-mod', mul-le-mul-right, suc-mul}
+use Prim.Native.Nat.{ℕ, suc, _+_, _-_, _*_, _≤_, _<_}
+use native.Mathlib.Nat.{mul-le-mul-right, suc-mul}
 use native.Mathlib.Omega.{arith}
-use borrow.Author.Tests.{leb-false, eqb-true, eqb-false, not-false}
-use lib.Dec.{leb, ltb, eqb}
+use borrow.Author.Tests.{eqb-true, eqb-false, not-false}
 use lib.ListN.{length, getD}
-use Rattle.memory.specs.Geometry.{pageWords, pageBytes, addressEnd, pageOf, directoryIndex}
+use Rattle.memory.specs.Geometry.{pageWords, pageOf, directoryIndex}
 use Rattle.memory.specs.Words.{index, word}
 use Rattle.memory.specs.Partition.{pages, current, directory, shadow1, shadow2, list, threes, mapping, lent, tableFor}
-use Rattle.memory.specs.Tree.{Virtual, Has, Child, InTree, child as below}
+use Rattle.memory.specs.Tree.{Virtual, Child, InTree, child as below}
 use Rattle.memory.specs.Uses.{Use, five}
 use Rattle.memory.specs.Sound.{Sound}
 use Rattle.memory.proofs.Geometry.{page-address, directoryIndex-lt}
-use Rattle.memory.proofs.Tables.{tableWord-absent}
 use Rattle.memory.proofs.Widths.{words-least}
 use Rattle.soundness.specs.Test.{soundTest}
 use Rattle.soundness.proofs.Whole.{test-sound, mapped-has, flat}
 use Rattle.rules.specs.Call.{prepare, collect}
-use Rattle.rules.specs.Conditions.{damaged, badPage, noChild, child, noThree}
+use Rattle.rules.specs.Conditions.{badPage, child}
 use Rattle.rules.specs.Refusals.{refusals, refusal}
 use Rattle.rules.specs.Effects.{threePlace}
-use Rattle.access.proofs.Passed.{passed}
+use Rattle.rules.proofs.Rows.{passed}
+use Rattle.rules.proofs.steps.Checks.{false-or}
+use Rattle.moves.proofs.Child.{good-virtual, is-child, few-listed}
 use Rattle.threes.proofs.ListLaws.{place-found}
 use Rattle.threes.specs.Standing.{Standing}
-
-false-or : (s t : Bool) → (s || t) ≡ false → (s ≡ false) × (t ≡ false)
-false-or true t e = absurd (true≢false e)
-false-or false t e = (refl, e)
-
-good-virtual : (b v : ℕ) → badPage b v ≡ false → Virtual b v
-good-virtual b v e =
-    let x = false-or (leb (addressEnd b) v || ltb v (pageBytes b)) (not (eqb (v % pageBytes b) 0)) e in
-    let y = false-or (leb (addressEnd b) v) (ltb v (pageBytes b)) (x .0) in
-    let z : v % pageBytes b ≡ 0 = eqb-true _ _ (not-false _ (x .1)) in
-    let w : v / pageBytes b * pageBytes b + v % pageBytes b ≡ v = div-add-mod' v (pageBytes b) in
-    (omega arith, leb-false (addressEnd b) v (y .0))
 
 same-five : {i j : ℕ} → five i ≡ five j → i ≡ j
 same-five e = cc
@@ -67,9 +54,6 @@ module _ (b : ℕ) (m : List ℕ) (s : Sound b m) (n d : ℕ) (t : InTree b m n 
       let q : five i ≡ five 4 = s .uses .one (list b m k) (own-some 4 (omega arith)) (own-inside 4 (omega arith)) (used i (list b m k) (omega arith) e) (used 4 (list b m k) (omega arith) refl) .1 in
       omega (arith, same-five q)
 
-  few : word b m (list b m k) 0 ≤ 61
-  few = let f = s .forms (suc n) k (below t a) .list in omega (arith, f .free, f .few)
-
   inside : 6 ≤ b → index b (list b m k) 61 ≤ length m
   inside wide =
       omega (arith, s .header .size, words-least b wide, mul-le-mul-right (pageWords b) (own-inside 4 (omega arith)), suc-mul (list b m k) (pageWords b))
@@ -86,42 +70,16 @@ module _ (b : ℕ) (m : List ℕ) (s : Sound b m) (n d : ℕ) (t : InTree b m n 
         omega (arith, place-found b m (list b m k) (tableFor b m k u - 1) (threes b m k) 0 j (omega arith) (omega arith) e)
 
     standing : 6 ≤ b → Standing b m k u
-    standing wide = record {
-      table = omega arith;
-      listed = record { inside = inside wide; few = few; three = omega (arith, place-lt, s .forms (suc n) k (below t a) .list .free) };
-      column = column;
-      directoryApart = apart 1 (omega arith);
-      shadow1Apart = apart 2 (omega arith);
-      shadow2Apart = apart 3 (omega arith);
-    }
-
--- ---- what stands at c of the caller, a page address whose shadow 1 word is 1
-
-module _ (b : ℕ) (m : List ℕ) (c : ℕ) (hd : damaged b m ≡ false) (hb : badPage b c ≡ false) (hc : noChild b m c ≡ false) where
-  sound : Sound b m
-  sound = test-sound b m (not-false (soundTest b m) hd)
-
-  mark : lent b m (current b m) c ≡ 1
-  mark = eqb-true (lent b m (current b m) c) 1 (not-false _ hc)
-
-  has : Has b m (current b m) c
-  has =
-      let v = good-virtual b c hb in
-      let f = sound .forms (sound .currentIn .0) (current b m) (sound .currentIn .1) .directory (directoryIndex b (pageOf b c)) (directoryIndex-lt b c (v .1)) in
-      record {
-        virtual = v;
-        table = λ z. let o : lent b m (current b m) c ≡ 0 = tableWord-absent b m (shadow1 b m (current b m)) (pageOf b c) (f .absent z .0) in omega (arith, mark);
-      }
-
-  is-child : Child b m (current b m) c (child b m c)
-  is-child = record { has = has; present = sound .children (sound .currentIn .0) (current b m) (sound .currentIn .1) .leads c has mark; mark = mark; page = refl }
-
-  child-few : word b m (list b m (child b m c)) 0 ≤ 61
-  child-few = few b m sound (sound .currentIn .0) (current b m) (sound .currentIn .1) c (child b m c) is-child
-
-  child-stands : 6 ≤ b → (t : ℕ) → badPage b t ≡ false → noThree b m (child b m c) t ≡ false → Standing b m (child b m c) t
-  child-stands wide t ht hn =
-      standing b m sound (sound .currentIn .0) (current b m) (sound .currentIn .1) c (child b m c) is-child t (good-virtual b t ht) (eqb-false _ _ hn) wide
+    standing wide =
+        let f = s .forms (suc n) k (below t a) .list in
+        record {
+          table = omega arith;
+          listed = record { inside = inside wide; few = omega (arith, f .free, f .few); three = omega (arith, place-lt, f .free) };
+          column = column;
+          directoryApart = apart 1 (omega arith);
+          shadow1Apart = apart 2 (omega arith);
+          shadow2Apart = apart 3 (omega arith);
+        }
 
 -- ---- the calls
 
@@ -129,11 +87,14 @@ pub prepare-few : (b : ℕ) (m : List ℕ) (c t p : ℕ) → refusal b m (prepar
 unfolding refusals
 prepare-few b m c t p e =
     let r = passed (refusals b m (prepare c t p)) e in
-    child-few b m c (r .0) (false-or (badPage b c) _ (r .1 .0) .0) (r .1 .1 .0)
+    few-listed b m c (not-false (soundTest b m) (r .0)) (false-or (badPage b c) _ (r .1 .0) .0) (r .1 .1 .0)
 
 pub collect-stands : (b : ℕ) (m : List ℕ) (c t : ℕ) → 6 ≤ b → refusal b m (collect c t) ≡ 0 → Standing b m (child b m c) t
 unfolding refusals
 collect-stands b m c t wide e =
     let r = passed (refusals b m (collect c t)) e in
     let g = false-or (badPage b c) _ (r .1 .0) in
-    child-stands b m c (r .0) (g .0) (r .1 .1 .0) wide t (false-or (badPage b t) _ (g .1) .0) (r .1 .1 .1 .0)
+    let s = test-sound b m (not-false (soundTest b m) (r .0)) in
+    let (k, i) = s .currentIn in
+    let a = is-child b m s k (current b m) i c (good-virtual b c (g .0)) (eqb-true (lent b m (current b m) c) 1 (not-false _ (r .1 .1 .0))) in
+    standing b m s k (current b m) i c (child b m c) a t (good-virtual b t (false-or (badPage b t) _ (g .1) .0)) (eqb-false _ _ (r .1 .1 .1 .0)) wide

@@ -15,14 +15,9 @@ fn count_refusal(b: u32, m: &[u32], good: bool, c: u32, t: u32) -> u32
     requires judged { ⌜ good ≡ soundTest b (now m) ⌝ }
     ensures { λ r. ⌜ (r ≡ refusal b (now (m .entry)) (pageCount c t)) × (r ≤ 16) ⌝ }
 {
-    if !good {
-        return 1;
-    }
-    if moves::any_bad(b, &[c, t]) {
-        return 3;
-    }
-    if moves::no_child(b, m, c) {
-        return 5;
+    let n = moves::child_refusal(b, m, good, &[c, t], c);
+    if n != 0 {
+        return n;
     }
     if moves::list_full(b, m, moves::child_of(b, m, c), t) {
         return 10;

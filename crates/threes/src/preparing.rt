@@ -7,7 +7,6 @@ use crate::lists::roots_of;
 use answers::Answer;
 ghost use mathlib.Core.Path.{_≡_};
 ghost use Prim.Native.Nat.{_+_, _≤_};
-ghost use Rattle.memory.specs.Geometry.{address};
 ghost use Rattle.memory.specs.Words.{word};
 ghost use Rattle.memory.specs.Partition.{list};
 ghost use Rattle.soundness.specs.Test.{soundTest};
@@ -25,14 +24,9 @@ fn prepare_refusal(b: u32, m: &[u32], good: bool, c: u32, t: u32, p: u32) -> u32
     requires judged { ⌜ good ≡ soundTest b (now m) ⌝ }
     ensures { λ r. ⌜ (r ≡ refusal b (now (m .entry)) (Call.prepare c t p)) × (r ≤ 16) ⌝ }
 {
-    if !good {
-        return 1;
-    }
-    if moves::any_bad(b, &[c, t, p]) {
-        return 3;
-    }
-    if moves::no_child(b, m, c) {
-        return 5;
+    let n = moves::child_refusal(b, m, good, &[c, t, p], c);
+    if n != 0 {
+        return n;
     }
     let k = moves::child_of(b, m, c);
     if !moves::no_three(b, m, k, t) {
@@ -42,14 +36,6 @@ fn prepare_refusal(b: u32, m: &[u32], good: bool, c: u32, t: u32, p: u32) -> u32
         return 10;
     }
     chain_refusal(b, m, p)
-}
-
-// The physical address of the caller's page at v.
-fn frame_at(b: u32, m: &[u32], v: u32) -> u32
-    requires { ⌜ Width b ⌝ }
-    ensures { λ r. ⌜ (r ≡ address b (child b (now (m .entry)) v)) × (r + 256 ≤ 4294967296) ⌝ }
-{
-    pages::frame(b, pages::mapping(b, m, pages::current(b, m), v))
 }
 
 // The links are read before a page is taken and wiped.
@@ -66,9 +52,9 @@ fn prepare_effect(b: u32, m: &mut [u32], c: u32, t: u32, p: u32)
     let i = pages::directory_index(b, pages::virtual_page(b, t));
     let q = link(b, m, p);
     let s = link(b, m, q);
-    let x = frame_at(b, m, p);
-    let y = frame_at(b, m, q);
-    let z = frame_at(b, m, s);
+    let x = moves::frame_at(b, m, d, p);
+    let y = moves::frame_at(b, m, d, q);
+    let z = moves::frame_at(b, m, d, s);
     moves::take_all(b, m, d, &[p, q, s]);
     put_three(b, m, r, i, x + 1, y + 1, z + 1);
     append_three(b, m, l, free, &[p, x, q, y, s, z]);

@@ -3,6 +3,7 @@ use mathlib.Core.Path.{_≡_, ap, _∙_}
 use mathlib.Core.Logic.{_≢_}
 use mathlib.Core.List.{List, [], _∷_}
 use mathlib.Core.Bool.{false}
+use mathlib.Core.Option.{Option}
 use Prim.Native.Nat.{ℕ, _+_, _*_, _≤_, _<_}
 use native.Mathlib.Omega.{arith}
 use lib.ListN.{getD}
@@ -33,6 +34,10 @@ module _ (b : ℕ) where
     pub full : (p : ℕ) → state .role p ≢ blank
     pub root : RootKept N (threesFor b N) state
     pub words : Encodes b N (fixed N) m state
+
+  -- its parts, by the names that the steps open them with
+  abbrev pub named : {m : List ℕ} → Inv m → record { N : ℕ; fl : ℕ → Option ℕ; f : List ℕ; A : Abs }
+  named i = record { N = i .N; fl = flat0 (i .N) (threesFor b (i .N)); f = fixed (i .N); A = i .state }
 
   -- another memory and state of as many pages
   pub moved : {m : List ℕ} (i : Inv m) (m′ : List ℕ) (A : Abs) → WF b (i .N) (flat0 (i .N) (threesFor b (i .N))) A → ((p : ℕ) → A .role p ≢ blank)

@@ -14,6 +14,7 @@ use Rattle.rules.proofs.Turns.{mark-root, mark-up}
 use Rattle.rules.proofs.model.Base.{eqd, upd, upd-same, upd-other}
 use Rattle.rules.proofs.model.Words.{bit, W, addr, word, pte, pageOf, pageOf-addr, setAcc, setAcc-pte, wipe, wipe-sized, wipe-other, wipe-same, twelve-lt}
 use Rattle.rules.proofs.model.Abs.{Kind, pt, s1, s2, Role, header, hand, blank, desc, root, lst, tab, Hop, Abs, parts, headV, headP, Seen, seek, GoodHop, Good, WF, Cells, Encodes, EncodesC, isHand, ownWord, lentWord, seenWord, cell, roleWord, descList, headList}
+use Rattle.rules.proofs.model.Apart.{pt-s1, pt-s2}
 use Rattle.rules.proofs.model.Facts.{in-range, nil-cons, length-parts, seek-here, seek-on, seek-nil, none-some, some-inj}
 use Rattle.rules.proofs.model.Read.{rootPage, entryAt, putAt, entry-three, kernel-lt, cell-none, cell-some}
 use Rattle.rules.proofs.model.Cells.{updC, updC-same, updC-other, set-cell}
@@ -61,12 +62,6 @@ module _ {b : ℕ} (wide : 6 ≤ b) where
 header-desc : {P : Type 0} {r : Role} → r ≡ header → r ≡ desc → P
 header-desc a β = let z : _≡_ {A = ℕ} 0 1 = cc in absurd (omega arith)
 
-pt-s1 : {P : Type 0} → pt ≡ s1 → P
-pt-s1 e = let z : _≡_ {A = ℕ} 0 1 = cc in absurd (omega arith)
-
-s2-pt : {P : Type 0} → s2 ≡ pt → P
-s2-pt e = let z : _≡_ {A = ℕ} 0 1 = cc in absurd (omega arith)
-
 module _ {b : ℕ} (wide : 6 ≤ b) where
   -- a hop's partition is as deep as the hop
   pub hop-depth : (A : Abs) (p : ℕ) (h : Hop) (hs : List Hop) → GoodHop b A p h hs → length (A .chain (h .part)) ≡ length hs
@@ -77,7 +72,7 @@ module _ {b : ℕ} (wide : 6 ≤ b) where
   fits-upd A a p [] C d v x g l t = tt
   fits-upd A a p (h ∷ hs) C d v x g l t =
       let n : h .part ≢ d = λ e. omega (arith, hop-depth A p h hs (g .0), (ap (λ (z : ℕ). length (A .chain z)) e)) in
-      ((updC-other C pt d v x pt (h .part) (h .vp) (λ y. n (y .1 .0)) ∙ t .0 .0, updC-other C pt d v x s2 (h .part) (h .vp) (λ y. s2-pt (y .0)) ∙ t .0 .1), fits-upd A a p hs C d v x (g .1) (omega arith) (t .1))
+      ((updC-other C pt d v x pt (h .part) (h .vp) (λ y. n (y .1 .0)) ∙ t .0 .0, updC-other C pt d v x s2 (h .part) (h .vp) (λ y. pt-s2 (sym (y .0))) ∙ t .0 .1), fits-upd A a p hs C d v x (g .1) (omega arith) (t .1))
 
   -- what the walk leaves, and what it sets
   pub flag-kind : (β : Bool) (p : ℕ) (hs : List Hop) (C : Cells) (k : Kind) (d v : ℕ) → k ≢ pt → flag b β p hs C k d v ≡ C k d v
@@ -197,7 +192,7 @@ module _ {b : ℕ} (wide : 6 ≤ b) where
                 at-p e w pt = cell-some wide (setRole A p R) pt d v p s e w ∙ ap (λ (r : Role). pte b p (isHand r) (s .rt)) (upd-same (A .role) p R) ∙ sym (flag-hit A (isHand R) p (A .chain p) (cell b A) d v none s (wf .good p) w z)
                 at-p e w s1 = cell-some wide (setRole A p R) s1 d v p s e w ∙ ap (λ (r : Role). lentWord b (setRole A p R) r (s .below)) (upd-same (A .role) p R) ∙ lent-role R own (s .below)
                     ∙ sym (flag-kind (isHand R) p (A .chain p) (cell b A) s1 d v (λ x. pt-s1 (sym x)) ∙ cell-some wide A s1 d v p s e w)
-                at-p e w s2 = cell-some wide (setRole A p R) s2 d v p s e w ∙ sym (flag-kind (isHand R) p (A .chain p) (cell b A) s2 d v (λ x. s2-pt x) ∙ cell-some wide A s2 d v p s e w)
+                at-p e w s2 = cell-some wide (setRole A p R) s2 d v p s e w ∙ sym (flag-kind (isHand R) p (A .chain p) (cell b A) s2 d v (λ x. pt-s2 (sym x)) ∙ cell-some wide A s2 d v p s e w)
 
   -- Take and return on the words; the page is h's first mapping
   module _ (N : ℕ) (fl : ℕ → Option ℕ) (f : List ℕ) (A : Abs) (wf : WF b N fl A) (p : ℕ) (R : Role) (free : isFree (A .role p) ≡ true) (Free : isFree R ≡ true)

@@ -14,22 +14,19 @@ use Rattle.memory.specs.Tree.{Virtual, Physical, Has, InTree}
 use Rattle.memory.specs.Sound.{Header, DescriptorForm, TableLink, DirectoryForm, ListForm, TableForm, Forms}
 use Rattle.rules.proofs.model.Base.{eqd}
 use Rattle.rules.proofs.model.Words.{W, word, pageOf, link, pte, pageOf-link, pageOf-zero, link-nz, Sized}
-use Rattle.rules.proofs.model.Abs.{Kind, pt, s1, s2, Role, desc, Hop, Three, Abs, headP, Seen, seek, threeAt, Good, isHand, ownWord, lentWord, linkWord, descList, listList, headList}
+use Rattle.rules.proofs.model.Abs.{Kind, pt, s1, s2, Role, desc, Hop, Three, headP, Seen, seek, threeAt, Good, isHand, ownWord, lentWord, linkWord, descList, listList, headList}
+use Rattle.rules.proofs.model.Apart.{own-small}
 use Rattle.rules.proofs.model.Facts.{none-some, seek-nil}
 use Rattle.rules.proofs.model.Read.{three-is}
-use Rattle.rules.proofs.model.Inv.{fixed, Inv, head-word, pages-is}
+use Rattle.rules.proofs.model.Inv.{fixed, Inv, named, head-word, pages-is}
 use Rattle.rules.proofs.model.Listing.{pageAt, list-free, list-rest}
 use Rattle.rules.proofs.model.Chains.{above}
 use Rattle.rules.proofs.sound.Words.{Mapping, mapping-there, words-none, maps-none, kernel-fits, descriptor-word, root-word, list-word, directory-is, shadow1-is, shadow2-is, list-is, threes-is}
 use Rattle.rules.proofs.sound.Tree.{in-tree-live}
-use Rattle.rules.proofs.sound.Pages.{own-small, fivePage, room, physical, owned-fits, good-virtual, head-virtual, zero-virtual, five-owner, five-virtual, five-physical, pairs-are, listed-owner, listed-virtual, listed-physical}
+use Rattle.rules.proofs.sound.Pages.{fivePage, room, physical, owned-fits, good-virtual, head-virtual, zero-virtual, five-owner, five-virtual, five-physical, pairs-are, listed-owner, listed-virtual, listed-physical}
 
 module _ {b : ℕ} (wide : 6 ≤ b) (m : List ℕ) (i : Inv b m) where
-  abbrev N : ℕ
-  N = i .N
-
-  abbrev A : Abs
-  A = i .state
+  open record (named b i) using (N, A)
 
   -- ---- the header
 

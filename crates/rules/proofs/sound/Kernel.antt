@@ -11,13 +11,14 @@ use Rattle.memory.specs.Tree.{Has, Child, InTree}
 use Rattle.memory.specs.Sound.{KernelAddress, Kernel}
 use Rattle.rules.proofs.model.Words.{addr, pageOf, bit}
 use Rattle.rules.proofs.model.Abs.{Role, desc, Hop, Abs, headV, Seen, Owner, isHand, lentWord}
+use Rattle.rules.proofs.model.Apart.{own-small}
 use Rattle.rules.proofs.model.Facts.{nil-cons, Top}
 use Rattle.rules.proofs.sound.Views.{owner-kernel}
 use Rattle.rules.proofs.model.Inv.{Inv}
 use Rattle.rules.proofs.model.Listing.{pageAt}
 use Rattle.rules.proofs.sound.Words.{Mapping, mapping-there, virtual-back, threes-is}
 use Rattle.rules.proofs.sound.Tree.{IsChild, child-is, in-tree-live}
-use Rattle.rules.proofs.sound.Pages.{own-small, fivePage, five-owner, five-virtual, pairs-are, listed-owner, listed-virtual}
+use Rattle.rules.proofs.sound.Pages.{fivePage, five-owner, five-virtual, pairs-are, listed-owner, listed-virtual}
 use Rattle.rules.proofs.sound.Places.{Place, in-hand, in-five, in-list, place, not-lent, owned-mapping, owner-child}
 
 module _ {b : ℕ} (wide : 6 ≤ b) (m : List ℕ) (i : Inv b m) where

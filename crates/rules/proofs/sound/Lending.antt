@@ -16,11 +16,11 @@ use Rattle.memory.specs.Tree.{Has, Child, InTree}
 use Rattle.memory.specs.Sound.{FromParent, Lent, Lending}
 use Rattle.rules.proofs.model.Words.{addr, pageOf}
 use Rattle.rules.proofs.model.Abs.{desc, Hop, Abs, parts, headV, Seen, seek, Sub, GoodHop, Good, Up, lentWord}
+use Rattle.rules.proofs.model.Apart.{own-small}
 use Rattle.rules.proofs.model.Facts.{nil-cons, none-some, some-inj, below-is}
 use Rattle.rules.proofs.model.Inv.{Inv}
 use Rattle.rules.proofs.model.Chains.{Above, above, Below, below}
 use Rattle.rules.proofs.sound.Words.{Mapping, mapping-there, mapping-at, has-at, virtual-back}
-use Rattle.rules.proofs.sound.Pages.{own-small}
 use Rattle.rules.proofs.sound.Places.{first-part}
 use Rattle.rules.proofs.sound.Tree.{IsChild, child-is, child-at, child-parts, in-tree-live}
 

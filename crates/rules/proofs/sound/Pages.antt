@@ -10,7 +10,7 @@ use Rattle.memory.specs.Partition.{pages, list, threes}
 use Rattle.memory.specs.Tree.{Virtual, Physical}
 use Rattle.memory.proofs.Widths.{words-least}
 use Rattle.rules.proofs.model.Words.{addr, pageOf, idx, pageOf-addr, addr-zero, cover-lt, idx-lt}
-use Rattle.rules.proofs.model.Abs.{pt, s1, s2, Role, header, hand, blank, desc, root, lst, tab, Hop, Abs, headV, Good, Owner, ownWord, descList}
+use Rattle.rules.proofs.model.Abs.{pt, s1, s2, Role, desc, root, lst, tab, Hop, Abs, headV, Good, Owner, descList}
 use Rattle.rules.proofs.model.Read.{three-is}
 use Rattle.rules.proofs.sound.Views.{owner-kernel}
 use Rattle.rules.proofs.model.Format.{kindAt}
@@ -28,16 +28,6 @@ fiveRole d (suc zero) = root pt d
 fiveRole d (suc (suc zero)) = root s1 d
 fiveRole d (suc (suc (suc zero))) = root s2 d
 fiveRole d (suc (suc (suc (suc j)))) = lst d
-
--- the shadow 1 word of a page that is not lent
-pub own-small : (r : Role) → ownWord r ≤ 1
-own-small header = omega arith
-own-small hand = omega arith
-own-small blank = omega arith
-own-small desc = omega arith
-own-small (root k d) = omega arith
-own-small (lst d) = omega arith
-own-small (tab k d x) = omega arith
 
 module _ {b : ℕ} (wide : 6 ≤ b) (m : List ℕ) (i : Inv b m) where
   abbrev A : Abs

@@ -14,9 +14,9 @@ use Rattle.memory.specs.Tree.{Has}
 use Rattle.memory.specs.Sound.{Root}
 use Rattle.rules.proofs.model.Base.{pick-yes, pick-no}
 use Rattle.rules.proofs.model.Words.{addr, addr-zero, pageOf}
-use Rattle.rules.proofs.model.Abs.{pt, s1, s2, Abs, parts, headV, Seen, isHand, cell, Up}
+use Rattle.rules.proofs.model.Abs.{pt, s1, s2, parts, headV, Seen, isHand, cell, Up}
 use Rattle.rules.proofs.model.Format.{kindNo, flat0}
-use Rattle.rules.proofs.model.Inv.{fixed, Inv, pages-is}
+use Rattle.rules.proofs.model.Inv.{fixed, Inv, named, pages-is}
 use Rattle.rules.proofs.model.RootWords.{parts-nil, five-words}
 use Rattle.rules.proofs.model.Chains.{Above, above}
 use Rattle.rules.proofs.sound.Words.{Mapping, mapping-of, words-none, kernel-word}
@@ -44,14 +44,10 @@ module _ (N T v : ℕ) where
       go (no a) c = pick-no (decLt 0 v) _ none a
 
 module _ {b : ℕ} (wide : 6 ≤ b) (m : List ℕ) (i : Inv b m) where
-  abbrev N : ℕ
-  N = i .N
+  open record (named b i) using (N, A)
 
   abbrev T : ℕ
   T = Geometry.threesFor b (i .N)
-
-  abbrev A : Abs
-  A = i .state
 
   five-is : (p : ℕ) → p < 5 → fivePage A 1 p ≡ 1 + p
   unfolding kindNo

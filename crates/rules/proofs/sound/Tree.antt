@@ -1,11 +1,10 @@
 -- The tree of partitions on the words: the partitions are the descriptors of the state, each as deep as its chain is long.
 use mathlib.Core.Path.{_≡_, refl, sym, ap, _∙_, subst}
-use mathlib.Core.Option.{Option}
 use mathlib.Core.List.{List, [], _∷_}
 use Prim.Native.Nat.{ℕ, zero, suc, _≤_}
 use native.Mathlib.Omega.{arith}
 use lib.ListN.{length}
-use Rattle.memory.specs.Geometry.{threesFor, mostDepth}
+use Rattle.memory.specs.Geometry.{mostDepth}
 use Rattle.memory.specs.Partition.{current}
 use Rattle.memory.specs.Tree.{Child, InTree}
 use Rattle.rules.proofs.model.Words.{addr, pageOf}
@@ -13,8 +12,7 @@ use Rattle.rules.proofs.model.Abs.{pt, s1, desc, Hop, Abs, parts, Good,
 use Rattle.rules.proofs.model.Facts.{length-parts, parts-of}
 use Rattle.rules.proofs.model.Read.{rootPage, entryAt, entry-is, child-view}
 use Rattle.rules.proofs.model.Walk.{hop-depth}
-use Rattle.rules.proofs.model.Format.{flat0}
-use Rattle.rules.proofs.model.Inv.{fixed, Inv, live}
+use Rattle.rules.proofs.model.Inv.{fixed, Inv, named, live}
 use Rattle.rules.proofs.sound.Words.{Mapping, mapping-first, has-at, virtual-fits}
 
 -- c is a child of d in the state, mapped there at virtual page u
@@ -27,14 +25,7 @@ pub record IsChild (A : Abs) (d u c : ℕ) : Type 0 where
   pub vp : hop .vp ≡ u
 
 module _ {b : ℕ} (wide : 6 ≤ b) (m : List ℕ) (i : Inv b m) where
-  abbrev N : ℕ
-  N = i .N
-
-  abbrev fl : ℕ → Option ℕ
-  fl = flat0 (i .N) (threesFor b (i .N))
-
-  abbrev A : Abs
-  A = i .state
+  open record (named b i) using (N, fl, A)
 
   pub child-is : (d v c : ℕ) → A .role d ≡ desc → Child b m d v c → IsChild A d (pageOf b v) c
   unfolding entryAt rootPage pageOf

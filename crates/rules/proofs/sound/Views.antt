@@ -10,6 +10,7 @@ use lib.ListN.{length}
 use Rattle.rules.proofs.model.Base.{eqd}
 use Rattle.rules.proofs.model.Words.{W, addr, word, idx, pte, bit, pageOf, accOf, rightsOf, pageOf-pte, accOf-pte, rightsOf-pte, pageOf-addr}
 use Rattle.rules.proofs.model.Abs.{Kind, pt, s1, s2, Role, header, hand, blank, desc, root, lst, tab, Hop, Abs, parts, Seen, seek, Sub, GoodHop, Good, Owner, WF, Encodes, isHand, cell}
+use Rattle.rules.proofs.model.Apart.{cons-head}
 use Rattle.rules.proofs.model.Facts.{nil-cons, seek-here, seek-on, seek-nil, none-some, some-inj, length-parts, parts-of, shorter}
 use Rattle.rules.proofs.model.Read.{entryAt, entry-is, child-view, Maps, maps-at, maps-hit, cell-pt, three-is}
 use Rattle.rules.proofs.model.Walk.{Fits, fits}
@@ -66,9 +67,6 @@ owner-kernel desc q d o = refl
 owner-kernel (root k x) q d o = refl
 owner-kernel (lst x) q d o = refl
 owner-kernel (tab k x i) q d o = refl
-
-cons-head : {x y : ℕ} {xs ys : List ℕ} → x ∷ xs ≡ y ∷ ys → x ≡ y
-cons-head e = cc
 
 module _ {b : ℕ} (wide : 6 ≤ b) where
   module _ (N : ℕ) (fl : ℕ → Option ℕ) (f m : List ℕ) (A : Abs) (wf : WF b N fl A) (en : Encodes b N f m A) where

@@ -16,8 +16,7 @@ use Rattle.memory.proofs.Geometry.{directoryIndex-lt, address-lt, page-address}
 use Rattle.rules.proofs.model.Words.{W, addr, word, pageOf, idx, off, join, pte, bit, accOf, rightsOf, pageOf-addr, pageOf-pte, accOf-pte, rightsOf-pte, pte-nz, off-lt, join-cut, twelve-lt}
 use Rattle.rules.proofs.model.Abs.{Kind, pt, s1, s2, Role, desc, root, lst, Hop, Three, Abs, headV, Seen, seek, threeAt, Good, isHand, lentWord, seenWord, cell, linkWord, descList, listList, roleWord}
 use Rattle.rules.proofs.model.Read.{rootPage, tableAt, entryAt, entry-is, entry-three, three-is, cell-none, cell-some, kernel-lt, maps-at, maps-hit, maps-three, Maps, root-page}
-use Rattle.rules.proofs.model.Format.{flat0}
-use Rattle.rules.proofs.model.Inv.{fixed, Inv}
+use Rattle.rules.proofs.model.Inv.{fixed, Inv, named}
 use Rattle.rules.proofs.model.Listing.{list-free}
 use Rattle.rules.proofs.model.Chains.{seek-first}
 
@@ -54,14 +53,7 @@ module _ (b : ℕ) (m : List ℕ) (A : Abs) where
     pub above : Partition.above b m d v ≡ addr b (s .up)
 
 module _ {b : ℕ} (wide : 6 ≤ b) (m : List ℕ) (i : Inv b m) where
-  abbrev N : ℕ
-  N = i .N
-
-  abbrev fl : ℕ → Option ℕ
-  fl = flat0 (i .N) (Geometry.threesFor b (i .N))
-
-  abbrev A : Abs
-  A = i .state
+  open record (named b i) using (N, fl, A)
 
   read : (k : Kind) (d v : ℕ) → A .role d ≡ desc → idx b v < W b → entryAt b m k d v ≡ cell b A k d v
   read = entry-is wide N fl A (i .wf) (fixed b N) m (i .words)

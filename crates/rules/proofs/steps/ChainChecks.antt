@@ -13,8 +13,7 @@ use Rattle.memory.specs.Geometry
 use Rattle.memory.specs.Words as Mem
 use Rattle.memory.specs.Entry.{present, accessible}
 use Rattle.memory.specs.Partition
-use Rattle.rules.specs.Refusal.{Refusal}
-use Rattle.rules.specs.Row.{Check, _when_, first}
+use Rattle.rules.specs.Row.{Check, first}
 use Rattle.rules.specs.Call.{prepare, collect}
 use Rattle.rules.specs.Conditions
 use Rattle.rules.specs.Refusals.{refusals, refusal}
@@ -23,14 +22,8 @@ use Rattle.rules.proofs.model.Abs.{Kind, pt, s1, s2}
 use Rattle.rules.proofs.model.Read.{tableAt, tablePage, entryAt, rootPage}
 use Rattle.rules.proofs.model.Names.{PageAddress, good-page, lent-is, mapping-is, tableFor-is}
 use Rattle.rules.proofs.steps.Create.{HandW}
-use Rattle.rules.proofs.steps.Checks.{number-nz, false-or, true-and}
-
--- ---- a row whose first refusal is none
-
-clear : (r : Refusal) (t : Bool) (cs : List Check) → first (r when t ∷ cs) ≡ 0 → (t ≡ false) × (first cs ≡ 0)
-unfolding first
-clear r true cs e = absurd (number-nz r e)
-clear r false cs e = (refl, e)
+use Rattle.rules.proofs.Rows.{clear, passed}
+use Rattle.rules.proofs.steps.Checks.{false-or, true-and}
 
 and-false : (s t : Bool) → s ≡ true → (s && t) ≡ false → t ≡ false
 and-false true t e f = f
@@ -92,14 +85,14 @@ module _ (b : ℕ) (m : List ℕ) where
     pub end : Conditions.link b m (chained p s2) ≡ 0
 
   -- one page of the chain, and the checks after it
-  record Passed (seen : List ℕ) (v : ℕ) (rest : List Check) : Type 0 where
+  record Linked (seen : List ℕ) (v : ℕ) (rest : List Check) : Type 0 where
     at : PageAddress b v
     fresh : any (eqb v) seen ≡ false
     hand : HandW b m (Partition.current b m) (pageOf b v)
     then : first rest ≡ 0
 
-  passed : (seen : List ℕ) (v : ℕ) (rest : List Check) → first (Conditions.inChain b m seen v ++ rest) ≡ 0 → Passed seen v rest
-  passed seen v rest e =
+  linked : (seen : List ℕ) (v : ℕ) (rest : List Check) → first (Conditions.inChain b m seen v ++ rest) ≡ 0 → Linked seen v rest
+  linked seen v rest e =
       let x = clear _ _ _ e in
       let y = clear _ _ _ (x .1) in
       let z = clear _ _ _ (y .1) in
@@ -126,9 +119,9 @@ module _ (b : ℕ) (m : List ℕ) where
       let e₅ = clear _ _ _ (e₄ .1) in
       let a = false-or (Conditions.badPage b c) _ (e₂ .0) in
       let a′ = false-or (Conditions.badPage b t) _ (a .1) in
-      let x = passed [] p _ (e₅ .1) in
-      let y = passed (p ∷ []) (Conditions.link b m p) _ (x .then) in
-      let z = passed (p ∷ Conditions.link b m p ∷ []) (Conditions.link b m (Conditions.link b m p)) _ (y .then) in
+      let x = linked [] p _ (e₅ .1) in
+      let y = linked (p ∷ []) (Conditions.link b m p) _ (x .then) in
+      let z = linked (p ∷ Conditions.link b m p ∷ []) (Conditions.link b m (Conditions.link b m p)) _ (y .then) in
       let last = clear _ _ _ (z .then) in
       let y′ = false-or (eqb (Conditions.link b m p) p) _ (y .fresh) in
       let z′ = false-or (eqb (Conditions.link b m (Conditions.link b m p)) p) _ (z .fresh) in
@@ -166,17 +159,13 @@ module _ (b : ℕ) (m : List ℕ) where
   pub collect-checks : (c t : ℕ) → refusal b m (collect c t) ≡ 0 → CollectChecks c t
   unfolding refusals
   collect-checks c t e =
-      let e₁ = clear _ _ _ e in
-      let e₂ = clear _ _ _ (e₁ .1) in
-      let e₃ = clear _ _ _ (e₂ .1) in
-      let e₄ = clear _ _ _ (e₃ .1) in
-      let e₅ = clear _ _ _ (e₄ .1) in
-      let a = false-or (Conditions.badPage b c) _ (e₂ .0) in
+      let y = passed (refusals b m (collect c t)) e in
+      let a = false-or (Conditions.badPage b c) _ (y .1 .0) in
       let a′ = false-or (Conditions.badPage b t) _ (a .1) in
       record {
         c-at = good-page b c (a .0);
         t-at = good-page b t (a′ .0);
-        child = mark-word c (e₃ .0);
-        there = λ z. eqb-false _ _ (e₄ .0) (tableFor-is b m _ t ∙ z);
-        empty = empty-words _ t (e₅ .0);
+        child = mark-word c (y .1 .1 .0);
+        there = λ z. eqb-false _ _ (y .1 .1 .1 .0) (tableFor-is b m _ t ∙ z);
+        empty = empty-words _ t (y .1 .1 .1 .1 .0);
       }

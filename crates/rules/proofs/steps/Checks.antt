@@ -1,7 +1,7 @@
--- A call that is not refused: each test of its row is false, and what the tests say of the words.
+-- What the tests of a row say of the words, where they are false: of a call that is not refused.
 use mathlib.Core.Path.{_≡_, refl}
 use mathlib.Core.Logic.{_≢_}
-use mathlib.Core.Bool.{Bool, true, false, cond, not, _&&_, _||_, true≢false, false≢true}
+use mathlib.Core.Bool.{Bool, true, false, not, _&&_, _||_, true≢false, false≢true}
 use mathlib.Core.List.{List, [], _∷_}
 use Prim.Native.Nat.{ℕ, _/_}
 use native.Mathlib.Omega.{arith}
@@ -11,48 +11,10 @@ use lib.Bits.{bitAnd, and-step, and-le-r}
 use Rattle.walk.specs.Finite.{any}
 use Rattle.memory.specs.Entry.{accessible}
 use Rattle.memory.specs.Partition.{current, mapping, lent, inHand}
-use Rattle.rules.specs.Refusal.{Refusal, DAMAGED, SIZE, ADDRESS, TWICE, CHILD, RIGHTS, HAND, TABLE, TAKEN, LIST, CHAIN, FULL-TABLE, DEPTH, ROOT, UNMAPPED, KERNEL, SHORT, MAGIC, number}
-use Rattle.rules.specs.Row.{Check, _when_, first}
 use Rattle.rules.specs.Conditions.{twice, noChild, lacks, noThree, unmapped, mapped}
 use Rattle.rules.proofs.model.Words.{pageOf, accOf, rightsOf}
 use Rattle.rules.proofs.model.Abs.{pt, s1, Sub}
 use Rattle.rules.proofs.model.Read.{rootPage, tableAt, entryAt}
-
--- ---- a row
-
-pub number-nz : (r : Refusal) → number r ≢ 0
-number-nz DAMAGED = omega arith
-number-nz SIZE = omega arith
-number-nz ADDRESS = omega arith
-number-nz TWICE = omega arith
-number-nz CHILD = omega arith
-number-nz RIGHTS = omega arith
-number-nz HAND = omega arith
-number-nz TABLE = omega arith
-number-nz TAKEN = omega arith
-number-nz LIST = omega arith
-number-nz CHAIN = omega arith
-number-nz FULL-TABLE = omega arith
-number-nz DEPTH = omega arith
-number-nz ROOT = omega arith
-number-nz UNMAPPED = omega arith
-number-nz KERNEL = omega arith
-number-nz SHORT = omega arith
-number-nz MAGIC = omega arith
-
--- every test is false
-abbrev pub Passed : List Check → Type 0
-Passed [] = Unit {0}
-Passed (r when t ∷ cs) = (t ≡ false) × Passed cs
-
-pub passed : (cs : List Check) → first cs ≡ 0 → Passed cs
-unfolding first
-passed [] e = tt
-passed (r when t ∷ cs) e = go t (passed cs) e
-  where
-    go : (t : Bool) → (first cs ≡ 0 → Passed cs) → cond t (number r) (first cs) ≡ 0 → (t ≡ false) × Passed cs
-    go true rest e = absurd (number-nz r e)
-    go false rest e = (refl, rest e)
 
 -- ---- tests that are put together
 

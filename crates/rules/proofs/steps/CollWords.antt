@@ -1,15 +1,17 @@
 -- collect on the words: the effect stated by places, and that the memory then stands for the smaller state.
 use mathlib.Core.Path.{_≡_, refl, sym, ap, _∙_, subst}
 use mathlib.Core.Logic.{_≢_}
-use mathlib.Core.Bool.{Bool, false}
-use mathlib.Core.Option.{Option, none, some}
+use mathlib.Core.Bool.{false}
+use mathlib.Core.Option.{Option, none}
 use mathlib.Core.List.{List, [], _∷_}
 use Prim.Native.Nat.{ℕ, _≤_, _<_}
 use native.Mathlib.Omega.{arith}
 use lib.ListN.{getD}
 use Rattle.rules.proofs.model.Base.{eqd, upd-same, upd-other}
-use Rattle.rules.proofs.model.Words.{W, word, join, pte, Sized, idx-join}
-use Rattle.rules.proofs.model.Abs.{Kind, pt, s1, s2, Role, header, hand, blank, desc, root, lst, tab, Three, Abs, Seen, seek, threeAt, Tabs, WF, Encodes, isHand, ownWord, lentWord, seenWord, pageWord, cell, roleWord, descList, headList, listList, linkWord, tag}
+use Rattle.rules.proofs.model.Words.{W, word, join, Sized, idx-join}
+use Rattle.rules.proofs.model.Abs.{Kind, Role, header, hand, blank, desc, root, lst, tab, Three, Abs, threeAt, Tabs, WF, Encodes, isHand, ownWord, cell, roleWord, descList, headList, listList, linkWord, tag}
+use Rattle.rules.proofs.model.Alike.{cells-same}
+use Rattle.rules.proofs.model.Apart.{root-part, lst-part}
 use Rattle.rules.proofs.model.Facts.{differ}
 use Rattle.rules.proofs.model.Read.{cell-none, ThreeIs, three-is}
 use Rattle.rules.proofs.steps.Prep.{at-on, at-nil}
@@ -32,12 +34,6 @@ module _ {b : ℕ} (wide : 6 ≤ b) where
       go (yes y) ih = ap (threeAt i) (without-here i t ts y) ∙ subst (λ (z : ℕ). threeAt z ts ≡ none) (sym y) (g .0 .once)
       go (no y) ih = ap (threeAt i) (without-on i t ts y) ∙ at-on i t (without i ts) y ∙ ih
 
-root-part : {k k′ : Kind} {d e : ℕ} → root k d ≡ root k′ e → d ≡ e
-root-part e = cc
-
-lst-part : {d e : ℕ} → lst d ≡ lst e → d ≡ e
-lst-part e = cc
-
 module _ {b : ℕ} (wide : 6 ≤ b) where
   module _ (N : ℕ) (fl : ℕ → Option ℕ) (f : List ℕ) (A : Abs) (wf : WF b N fl A) (c i : ℕ) (t : Three) (pre : CollPre b A c i t) where
     abbrev B : Abs
@@ -53,25 +49,8 @@ module _ {b : ℕ} (wide : 6 ≤ b) where
         go (gone k x y) = (ap isHand y ∙ sym (ap isHand (ap (A .role) x ∙ is .pages k)), ap ownWord y ∙ sym (ap ownWord (ap (A .role) x ∙ is .pages k)))
         go (left _ y) = (ap isHand y, ap ownWord y)
 
-    lent-same : (q : ℕ) (x : Option ℕ) → lentWord b B (B .role q) x ≡ lentWord b A (A .role q) x
-    unfolding lentWord
-    lent-same q none = role-same q .1
-    lent-same q (some d) = refl
-
-    seen-same : (k : Kind) (q : ℕ) (x : Option Seen) → seenWord b B k q x ≡ seenWord b A k q x
-    unfolding seenWord
-    seen-same k q none = refl
-    seen-same pt q (some s) = ap (λ (β : Bool). pte b q β (s .rt)) (role-same q .0)
-    seen-same s1 q (some s) = lent-same q (s .below)
-    seen-same s2 q (some s) = refl
-
     coll-cells : (k : Kind) (d v : ℕ) → cell b B k d v ≡ cell b A k d v
-    unfolding cell pageWord
-    coll-cells k d v = go (A .maps d v)
-      where
-        go : (x : Option ℕ) → pageWord b B k d x ≡ pageWord b A k d x
-        go none = refl
-        go (some q) = seen-same k q (seek none d (A .chain q))
+    coll-cells = cells-same b A B refl refl role-same
 
     R-role : (k : Kind) → A .role (A .rootp k c) ≡ root k c
     R-role k = wf .root-role k c (pre .live)

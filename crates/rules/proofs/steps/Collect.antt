@@ -9,6 +9,7 @@ use lib.ListN.{length}
 use Rattle.rules.proofs.model.Base.{eqd, pick, pick-yes, pick-no, upd, upd-same, upd-other}
 use Rattle.rules.proofs.model.Words.{idx}
 use Rattle.rules.proofs.model.Abs.{Kind, pt, s1, s2, Role, header, hand, blank, desc, root, lst, tab, Hop, Three, Abs, parts, threeAt, GoodHop, Owner, Tabs, WF, tag}
+use Rattle.rules.proofs.model.Apart.{tab-part}
 use Rattle.rules.proofs.model.Facts.{good-map, none-some, some-inj}
 use Rattle.rules.proofs.model.Read.{ThreeIs, three-is}
 use Rattle.rules.proofs.model.Roles.{tabs-map}
@@ -56,9 +57,6 @@ module _ {b : ℕ} (wide : 6 ≤ b) where
 
 tab-at : {k k′ : Kind} {d d′ j j′ : ℕ} → tab k d j ≡ tab k′ d′ j′ → j ≡ j′
 tab-at e = cc
-
-tab-part : {k k′ : Kind} {d d′ j j′ : ℕ} → tab k d j ≡ tab k′ d′ j′ → d ≡ d′
-tab-part e = cc
 
 module _ {b : ℕ} (wide : 6 ≤ b) where
   -- the rest of the threes, their pages in a function of roles that keeps them

@@ -10,25 +10,19 @@ use Rattle.memory.specs.Partition
 use Rattle.rules.specs.Conditions
 use Rattle.rules.specs.Effects.{placeOf, threePlace}
 use Rattle.rules.proofs.model.Words.{addr, word, pte-nz, link, idx, off, off-lt, pageOf}
-use Rattle.rules.proofs.model.Abs.{Kind, pt, Role, desc, tab, Hop, Three, Abs, parts, headV, threeAt, Owner, WF, Encodes, cell, linkWord}
+use Rattle.rules.proofs.model.Abs.{Kind, pt, Role, desc, Hop, Three, Abs, parts, headV, threeAt, Owner, WF, Encodes, cell, linkWord}
+use Rattle.rules.proofs.model.Apart.{cons-head, tab-kind}
 use Rattle.rules.proofs.model.Facts.{nil-cons, parts-of}
 use Rattle.rules.proofs.model.Read.{entryAt, entry-there, entry-three, three-there, table-word, cell-pt, ThreeIs, three-is}
 use Rattle.rules.proofs.model.Names.{tableFor-is}
 use Rattle.rules.proofs.steps.Fill.{First}
 use Rattle.rules.proofs.steps.Collect.{CollPre}
-use Rattle.rules.proofs.model.Format.{flat0}
-use Rattle.rules.proofs.model.Inv.{fixed, Inv, live}
+use Rattle.rules.proofs.model.Inv.{Inv, named, live}
 use Rattle.rules.proofs.steps.ChainChecks.{CollectChecks}
 use Rattle.rules.proofs.steps.ListPage.{list-page, threes-is}
 use Rattle.rules.proofs.steps.ChildPage.{ChildOf, child-of}
 use Rattle.rules.proofs.steps.ThreePlace.{Split, split, Shown, place-is}
 use Rattle.rules.proofs.steps.SixWords.{addressAt, pair-words, address-word}
-
-cons-head : {x y : ℕ} {xs ys : List ℕ} → x ∷ xs ≡ y ∷ ys → x ≡ y
-cons-head e = cc
-
-tab-kind : {k k′ : Kind} {d d′ j j′ : ℕ} → tab k d j ≡ tab k′ d′ j′ → k ≡ k′
-tab-kind e = cc
 
 -- the first mapping of a page is o's
 first-in : (A : Abs) (o q : ℕ) (ps : List ℕ) → parts (A .chain q) ≡ o ∷ ps → First A o q
@@ -62,17 +56,7 @@ module _ {b : ℕ} (m : List ℕ) (i : Inv b m) (c t : ℕ) where
     pub words : (k : Kind) → word b m (Partition.list b m kid) (addressAt k + 6 * threePlace b m kid t) ≡ addr b (headV (i .state .chain (three .page k)))
 
 module _ {b : ℕ} (wide : 6 ≤ b) (m : List ℕ) (i : Inv b m) (c t : ℕ) (ck : CollectChecks b m c t) where
-  abbrev N : ℕ
-  N = i .N
-
-  abbrev fl : ℕ → Option ℕ
-  fl = flat0 (i .N) (Geometry.threesFor b (i .N))
-
-  abbrev f : List ℕ
-  f = fixed b (i .N)
-
-  abbrev A : Abs
-  A = i .state
+  open record (named b i) using (N, fl, f, A)
 
   abbrev wf : WF b N fl A
   wf = i .wf

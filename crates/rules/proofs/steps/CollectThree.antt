@@ -1,7 +1,7 @@
 -- collect that passes its checks: the three leaves the list and the roots, its pages come back chained. The invariant stays.
 use mathlib.Core.Path.{_≡_, refl, sym, ap, _∙_, subst}
 use mathlib.Core.Logic.{_≢_}
-use mathlib.Core.Option.{Option, some}
+use mathlib.Core.Option.{some}
 use mathlib.Core.List.{List, [], _∷_}
 use Prim.Native.Nat.{ℕ, _+_, _*_, _≤_, _<_}
 use native.Mathlib.Omega.{arith}
@@ -16,6 +16,7 @@ use Rattle.rules.specs.Effects.{dropThree, threePlace, collectThree, eff
 use Rattle.rules.proofs.model.Base.{upd-other}
 use Rattle.rules.proofs.model.Words.{W, addr, word, put, idx, pageOf, sixty-one, Sized, put-sized, word-put-same, word-put-other}
 use Rattle.rules.proofs.model.Abs.{Kind, pt, s1, s2, hand, blank, desc, Hop, Three, Abs, headV, threeAt, WF, Encodes, cell}
+use Rattle.rules.proofs.model.Apart.{pt-s1, pt-s2, s1-s2}
 use Rattle.rules.proofs.model.Facts.{differ, in-range}
 use Rattle.rules.proofs.model.Read.{rootPage, root-page}
 use Rattle.rules.proofs.steps.Fill.{First}
@@ -23,10 +24,9 @@ use Rattle.rules.proofs.steps.Move.{free-put}
 use Rattle.rules.proofs.steps.Collect.{without, CollPre, collA, threes-keep, View, off as gone, on as left, view, coll-wf}
 use Rattle.rules.proofs.steps.CollWords.{coll-words}
 use Rattle.rules.proofs.steps.CollectEffect.{removed, collect-effect}
-use Rattle.rules.proofs.model.Format.{flat0}
-use Rattle.rules.proofs.model.Inv.{fixed, Inv, live}
+use Rattle.rules.proofs.model.Inv.{Inv, named, live}
 use Rattle.rules.proofs.steps.ChainChecks.{collect-checks}
-use Rattle.rules.proofs.steps.ThreePages.{pt-s1, pt-s2, s1-s2, setThree, on-three, off-three, give-three, third-zero}
+use Rattle.rules.proofs.steps.ThreePages.{setThree, on-three, off-three, give-three, third-zero}
 use Rattle.rules.proofs.steps.SixWords.{addressAt}
 use Rattle.rules.proofs.steps.ChildPage.{first-mapping}
 use Rattle.rules.proofs.steps.CollectPlace.{caller, kid, at, Found, found}
@@ -37,17 +37,7 @@ module _ (b : ℕ) where
   linked m o v₁ v₂ v₃ q₁ q₂ = put b (put b (returnAll b m o (v₁ ∷ v₂ ∷ v₃ ∷ [])) q₁ 0 v₂) q₂ 0 v₃
 
 module _ {b : ℕ} (wide : 6 ≤ b) (m : List ℕ) (i : Inv b m) (c t : ℕ) (fd : Found m i c t) where
-  abbrev N : ℕ
-  N = i .N
-
-  abbrev fl : ℕ → Option ℕ
-  fl = flat0 (i .N) (Geometry.threesFor b (i .N))
-
-  abbrev f : List ℕ
-  f = fixed b (i .N)
-
-  abbrev A : Abs
-  A = i .state
+  open record (named b i) using (N, fl, f, A)
 
   abbrev wf : WF b N fl A
   wf = i .wf

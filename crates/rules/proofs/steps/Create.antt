@@ -11,6 +11,7 @@ use Rattle.rules.specs.Moves.{takePage, takeAll}
 use Rattle.rules.proofs.model.Base.{eqd, pick, pick-yes, pick-no, upd, upd-same, upd-other}
 use Rattle.rules.proofs.model.Words.{W, addr, word, put, idx, off, pageOf, accOf, pageOf-addr, putL, twelve-lt}
 use Rattle.rules.proofs.model.Abs.{Kind, pt, s1, s2, blank, desc, Hop, Abs, headV, headP, Good, WF, Encodes, isHand, cell, descList}
+use Rattle.rules.proofs.model.Apart.{pt-s1, pt-s2, s1-s2}
 use Rattle.rules.proofs.model.Facts.{differ, length-parts, not-root}
 use Rattle.rules.proofs.model.Read.{tablePage, entryAt, entry-is, kernel-lt}
 use Rattle.rules.proofs.model.Roles.{setRole}
@@ -50,15 +51,6 @@ module _ (b : ℕ) where
     pub vr-w : (k : Kind) → vr k ≢ w
     pub vr-one : (k k′ : Kind) → vr k ≡ vr k′ → k ≡ k′
     pub deep : depthM b 9 m o < 8
-
-pt-s1 : {X : Type 0} → pt ≡ s1 → X
-pt-s1 e = let z : _≡_ {A = ℕ} 0 1 = cc in absurd (omega arith)
-
-pt-s2 : {X : Type 0} → pt ≡ s2 → X
-pt-s2 e = let z : _≡_ {A = ℕ} 0 1 = cc in absurd (omega arith)
-
-s1-s2 : {X : Type 0} → s1 ≡ s2 → X
-s1-s2 e = let z : _≡_ {A = ℕ} 0 1 = cc in absurd (omega arith)
 
 module _ {b : ℕ} (wide : 6 ≤ b) where
   module _ (N : ℕ) (fl : ℕ → Option ℕ) (f m : List ℕ) (A : Abs) (wf : WF b N fl A) (en : Encodes b N f m A) where

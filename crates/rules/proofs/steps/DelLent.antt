@@ -14,24 +14,13 @@ use Rattle.memory.proofs.Geometry.{page-address}
 use Rattle.rules.specs.Effects.{release, releaseAll}
 use Rattle.rules.proofs.model.Base.{eqd, upd, upd-same, upd-other}
 use Rattle.rules.proofs.model.Words.{W, addr, idx, words, idx-below, addr-inj, addr-nz, addr-not-one}
-use Rattle.rules.proofs.model.Abs.{s1, Role, header, hand, blank, desc, root, lst, tab, Hop, Three, threeAt, Abs, parts, headV, Seen, seek, Good, WF, Cells, EncodesC, ownWord, lentWord, cell}
+use Rattle.rules.proofs.model.Abs.{s1, desc, Hop, Three, threeAt, Abs, parts, headV, Seen, seek, Good, WF, Cells, EncodesC, ownWord, lentWord, cell}
+use Rattle.rules.proofs.model.Apart.{cons-head, own-small}
 use Rattle.rules.proofs.model.Facts.{nil-cons, seek-here, seek-on, seek-nil, none-some, some-inj, below-is}
 use Rattle.rules.proofs.model.Read.{rootPage, entryAt, entry-three, entry-no-three, unmapped, cell-none, cell-s1, Maps, maps-at}
 use Rattle.rules.proofs.steps.Delete.{after, after-here, after-on, cut, cut-some, delA, DelPre, Stays, kept, seek-after, o-stays, D-parts, del-wf}
 use Rattle.rules.proofs.steps.DelWords.{choose, back, mix, mix-none, mix-some}
 use Rattle.rules.proofs.steps.DelSteps.{at-A, release-page}
-
-own-small : (r : Role) → ownWord r ≤ 1
-own-small header = omega arith
-own-small hand = omega arith
-own-small blank = omega arith
-own-small desc = omega arith
-own-small (root k d) = omega arith
-own-small (lst d) = omega arith
-own-small (tab k d i) = omega arith
-
-cons-head : {x y : ℕ} {xs ys : List ℕ} → x ∷ xs ≡ y ∷ ys → x ≡ y
-cons-head e = cc
 
 -- what stands below o in a chain is in it
 below-after : (o D : ℕ) (β : Option ℕ) (hs : List Hop) (s : Seen) → β ≢ some D → seek β o hs ≡ some s → s .below ≡ some D → (t : List Hop) × (after D hs ≡ some t)

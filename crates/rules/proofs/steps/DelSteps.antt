@@ -14,13 +14,14 @@ use Rattle.rules.specs.Effects.{release}
 use Rattle.rules.proofs.model.Base.{eqd, upd, upd-same, upd-other}
 use Rattle.rules.proofs.model.Words.{addr, idx, pte, pageOf, accOf, bit, pageOf-pte, accOf-pte, wipe}
 use Rattle.rules.proofs.model.Abs.{Kind, pt, s1, s2, Role, hand, desc, Hop, Three, Abs, headV, Seen, seek, threeAt, GoodHop, Good, WF, Cells, EncodesC, isHand, ownWord, lentWord, seenWord, cell}
+use Rattle.rules.proofs.model.Apart.{pt-s1, pt-s2, s1-s2}
 use Rattle.rules.proofs.model.Facts.{seek-here, none-some, some-inj, Top, top as top-hop}
 use Rattle.rules.proofs.model.Read.{rootPage, entryAt, putAt, entry-three, cell-some}
 use Rattle.rules.proofs.model.Cells.{Same, samed, updC, updC-same, updC-other, set-cell}
 use Rattle.rules.proofs.model.Walk.{walk, walked, flag, flag-kind, flag-none, flag-hit, Fits, fits, hop-depth, encodes-ext}
 use Rattle.rules.proofs.model.Take.{give-is}
 use Rattle.rules.proofs.steps.Delete.{delA, DelPre, Stays, used, gone, kept, maps-used, o-stays, del-wf}
-use Rattle.rules.proofs.steps.DelWords.{ext-live, wipe-hand, choose, either, pt-s1, s1-s2, s2-pt, cons-hop, fits-cut, fits-ext, Back, Twice, twice, below-stays, lent-some, mix, mix-none, mix-some}
+use Rattle.rules.proofs.steps.DelWords.{ext-live, wipe-hand, choose, either, cons-hop, fits-cut, fits-ext, Back, Twice, twice, below-stays, lent-some, mix, mix-none, mix-some}
 
 module _ {b : ℕ} (wide : 6 ≤ b) (N : ℕ) (fl : ℕ → Option ℕ) (f : List ℕ) (A : Abs) (wf : WF b N fl A) (o D : ℕ) (pre : DelPre A o D) where
   abbrev B : Abs
@@ -173,7 +174,7 @@ module _ {b : ℕ} (wide : 6 ≤ b) (N : ℕ) (fl : ℕ → Option ℕ) (f : Lis
             updC-other (Mix S) s1 o u 0 pt d v (λ y. pt-s1 (y .0)) ∙ pt-now d v sd e t ∙ ap (λ (β : Bool). pte b p β (t .s .rt)) h
             ∙ ap (pte b p true) (sym (t .rt)) ∙ sym (cell-pt-B d v (t .s′) (t .now-maps) (t .now)) ∙ sym (mix-p pt d v e)
         go (yes e) s1 = shadows s1 d v sd e (λ y. pt-s1 (sym y))
-        go (yes e) s2 = shadows s2 d v sd e (λ y. s2-pt y)
+        go (yes e) s2 = shadows s2 d v sd e (λ y. pt-s2 (sym y))
 
     -- and where the walk sets it
     walk-cells : (k : Kind) (d v : ℕ) → B .role d ≡ desc → flag b true p (x .hop ∷ x .rest) C1 k d v ≡ Mix S′ k d v
@@ -189,7 +190,7 @@ module _ {b : ℕ} (wide : 6 ≤ b) (N : ℕ) (fl : ℕ → Option ℕ) (f : Lis
             flag-hit wide B true p (x .hop ∷ x .rest) C1 d v none (t .s′) g (subst (λ (z : List Hop). seek none d z ≡ some (t .s′)) (x .is) (t .now)) (t .vp)
             ∙ sym (cell-pt-B d v (t .s′) (t .now-maps) (t .now)) ∙ sym (mix-p pt d v e)
         go (yes e) s1 = flag-kind wide true p (x .hop ∷ x .rest) C1 s1 d v (λ y. pt-s1 (sym y)) ∙ shadows s1 d v sd e (λ y. pt-s1 (sym y))
-        go (yes e) s2 = flag-kind wide true p (x .hop ∷ x .rest) C1 s2 d v (λ y. s2-pt y) ∙ shadows s2 d v sd e (λ y. s2-pt y)
+        go (yes e) s2 = flag-kind wide true p (x .hop ∷ x .rest) C1 s2 d v (λ y. pt-s2 (sym y)) ∙ shadows s2 d v sd e (λ y. pt-s2 (sym y))
 
     walk-fits : Fits b isOpen C1 p (x .hop ∷ x .rest)
     unfolding choose

@@ -5,11 +5,11 @@ use mathlib.Core.Bool.{Bool, true, false}
 use mathlib.Core.Option.{Option, none, some}
 use mathlib.Core.List.{List, [], _∷_}
 use Prim.Native.Nat.{ℕ, _+_, _*_, _≤_, _<_}
-use native.Mathlib.Omega.{arith}
 use lib.ListN.{length, getD}
 use Rattle.rules.proofs.model.Base.{eqd}
 use Rattle.rules.proofs.model.Words.{W, addr, word, join, pte, wipe, wipe-sized, wipe-other}
 use Rattle.rules.proofs.model.Abs.{Kind, pt, s1, s2, Role, header, hand, blank, desc, root, lst, tab, Hop, Three, Abs, parts, headV, Seen, seek, Good, Owner, Tabs, WF, Cells, Encodes, EncodesC, isHand, lentWord, seenWord, cell, roleWord, descList, headList, listList, listPairs}
+use Rattle.rules.proofs.model.Apart.{cons-head}
 use Rattle.rules.proofs.model.Facts.{nil-cons, seek-on, seek-nil, none-some, some-inj, not-hand, below-is, Like, like, in-range}
 use Rattle.rules.proofs.model.Read.{cell-none, cell-some}
 use Rattle.rules.proofs.model.Cells.{TabView, tab-view, table, no-table, roleWord-else}
@@ -39,20 +39,8 @@ unfolding choose
 either true e = refl
 either false e = e
 
-pub pt-s1 : {X : Type 0} → pt ≡ s1 → X
-pt-s1 e = let z : _≡_ {A = ℕ} 0 1 = cc in absurd (omega arith)
-
-pub s1-s2 : {X : Type 0} → s1 ≡ s2 → X
-s1-s2 e = let z : _≡_ {A = ℕ} 0 1 = cc in absurd (omega arith)
-
-pub s2-pt : {X : Type 0} → s2 ≡ pt → X
-s2-pt e = let z : _≡_ {A = ℕ} 0 1 = cc in absurd (omega arith)
-
 pub cons-hop : {x y : Hop} {xs ys : List Hop} → x ∷ xs ≡ y ∷ ys → x ≡ y
 cons-hop e = cc
-
-cons-head : {x y : ℕ} {xs ys : List ℕ} → x ∷ xs ≡ y ∷ ys → x ≡ y
-cons-head e = cc
 
 module _ {b : ℕ} (wide : 6 ≤ b) where
   -- the cells of a chain behind D, and of another function that agrees there

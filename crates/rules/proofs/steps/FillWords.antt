@@ -10,17 +10,12 @@ use lib.ListN.{length, getD}
 use Rattle.rules.proofs.model.Base.{eqd, both, upd-same, upd-other}
 use Rattle.rules.proofs.model.Words.{W, word, put, idx, off, pte, putL, putL-sized, putL-other, putL-same, twelve-lt}
 use Rattle.rules.proofs.model.Abs.{Kind, pt, s1, s2, Role, header, hand, blank, desc, root, lst, tab, Hop, Three, Abs, headV, Seen, seek, threeAt, Good, WF, Cells, Encodes, EncodesC, isHand, ownWord, lentWord, seenWord, cell, roleWord, descList, headList, listList, listPairs, linkWord}
+use Rattle.rules.proofs.model.Apart.{pt-s1, s1-s2}
 use Rattle.rules.proofs.model.Facts.{seek-here, differ, Top, top}
 use Rattle.rules.proofs.model.Read.{tablePage, entry-three, kernel-lt, cell-none, cell-some}
 use Rattle.rules.proofs.model.Cells.{updC, updC-same, updC-other, put-cell, tab-one}
 use Rattle.rules.proofs.model.Walk.{encodes-ext}
 use Rattle.rules.proofs.steps.Fill.{FillPre, fillA, FillView, is-D, is-P, is-L, is-old, view, at-D, keep, fill-wf}
-
-pt-s1 : {X : Type 0} → pt ≡ s1 → X
-pt-s1 e = let z : _≡_ {A = ℕ} 0 1 = cc in absurd (omega arith)
-
-s1-s2 : {X : Type 0} → s1 ≡ s2 → X
-s1-s2 e = let z : _≡_ {A = ℕ} 0 1 = cc in absurd (omega arith)
 
 cons-hop : {x y : Hop} {xs ys : List Hop} → x ∷ xs ≡ y ∷ ys → x ≡ y
 cons-hop e = cc

@@ -2,7 +2,6 @@
 use mathlib.Core.Path.{_≡_, refl, sym, ap, _∙_}
 use mathlib.Core.Logic.{_≢_}
 use mathlib.Core.Bool.{Bool, true, false}
-use mathlib.Core.Option.{Option}
 use mathlib.Core.List.{List}
 use Prim.Native.Nat.{ℕ, _≤_, _<_}
 use native.Mathlib.Omega.{arith}
@@ -18,25 +17,14 @@ use Rattle.rules.proofs.steps.Remove.{remA, remM, RemChecks, rem-words}
 use Rattle.rules.proofs.steps.Create.{createM, CreateChecks, create-words, create-root, no-blank-left}
 use Rattle.rules.proofs.sound.Views.{sees, Sees, child-is}
 use Rattle.rules.proofs.steps.Move.{setCur, free-put, cur-wf, cur-words}
-use Rattle.rules.proofs.model.Format.{flat0}
-use Rattle.rules.proofs.model.Inv.{RootKept, fixed, Inv, moved, live}
+use Rattle.rules.proofs.model.Inv.{RootKept, Inv, named, moved, live}
 
 bit-true : (a : Bool) → bit a ≡ 1 → a ≡ true
 bit-true true e = refl
 bit-true false e = absurd (omega arith)
 
 module _ {b : ℕ} (wide : 6 ≤ b) (m : List ℕ) (i : Inv b m) where
-  abbrev N : ℕ
-  N = i .N
-
-  abbrev fl : ℕ → Option ℕ
-  fl = flat0 (i .N) (threesFor b (i .N))
-
-  abbrev f : List ℕ
-  f = fixed b (i .N)
-
-  abbrev A : Abs
-  A = i .state
+  open record (named b i) using (N, fl, f, A)
 
   -- a state with the root's pages as they were
   kept : {B : Abs} → B .rootp ≡ A .rootp → B .lstp ≡ A .lstp → B .threes ≡ A .threes → RootKept N (threesFor b N) B

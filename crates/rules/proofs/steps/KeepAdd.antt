@@ -1,12 +1,11 @@
 -- addVAddr and removeVAddr keep the invariant.
 use mathlib.Core.Path.{_≡_, refl, sym, ap, _∙_, subst, subst₂}
 use mathlib.Core.Bool.{true}
-use mathlib.Core.Option.{Option, some}
+use mathlib.Core.Option.{some}
 use mathlib.Core.List.{List, [], _∷_}
 use Prim.Native.Nat.{ℕ, _≤_}
 use native.Mathlib.Omega.{arith}
 use borrow.Author.Tests.{ltb-false}
-use Rattle.memory.specs.Geometry.{threesFor}
 use Rattle.memory.specs.Entry.{allRights}
 use Rattle.memory.specs.Partition.{current}
 use Rattle.rules.specs.Call.{addVAddr, removeVAddr}
@@ -14,34 +13,22 @@ use Rattle.rules.specs.Conditions.{badPage, child}
 use Rattle.rules.specs.Refusals.{refusals, refusal}
 use Rattle.rules.specs.Effects.{add, remove, effect}
 use Rattle.rules.proofs.model.Words.{put, idx, off, pte, pageOf, pageOf-addr}
-use Rattle.rules.proofs.model.Abs.{Kind, pt, s1, s2, desc, Hop, Three, threeAt, Abs, GoodHop, Good, Cells, EncodesC, cell}
+use Rattle.rules.proofs.model.Abs.{Kind, pt, s1, s2, desc, Hop, Three, threeAt, GoodHop, Good, Cells, EncodesC, cell}
+use Rattle.rules.proofs.model.Apart.{cons-head}
 use Rattle.rules.proofs.model.Facts.{parts-of}
 use Rattle.rules.proofs.model.Read.{rootPage, tablePage, entryAt, putAt, put-there, entry-three}
 use Rattle.rules.proofs.model.Cells.{set-cell}
 use Rattle.rules.proofs.steps.Add.{newHop}
 use Rattle.rules.proofs.steps.AddWords.{addM, AddChecks, AddView, add-view}
 use Rattle.rules.proofs.steps.Remove.{remM, RemChecks, RemView, rem-view}
-use Rattle.rules.proofs.model.Format.{flat0}
 use Rattle.rules.proofs.model.Names.{PageAddress, good-page}
-use Rattle.rules.proofs.model.Inv.{fixed, Inv, live}
+use Rattle.rules.proofs.model.Inv.{Inv, named, live}
 use Rattle.rules.proofs.steps.Keep.{inv-add, inv-remove}
-use Rattle.rules.proofs.steps.Checks.{passed, none-of, a-child, in-hand, has-three, not-mapped, has-rights}
-
-cons-head : {x y : ℕ} {xs ys : List ℕ} → x ∷ xs ≡ y ∷ ys → x ≡ y
-cons-head e = cc
+use Rattle.rules.proofs.Rows.{passed}
+use Rattle.rules.proofs.steps.Checks.{none-of, a-child, in-hand, has-three, not-mapped, has-rights}
 
 module _ {b : ℕ} (wide : 6 ≤ b) (m : List ℕ) (i : Inv b m) where
-  abbrev N : ℕ
-  N = i .N
-
-  abbrev fl : ℕ → Option ℕ
-  fl = flat0 (i .N) (threesFor b (i .N))
-
-  abbrev f : List ℕ
-  f = fixed b (i .N)
-
-  abbrev A : Abs
-  A = i .state
+  open record (named b i) using (N, fl, f, A)
 
   -- ---- table words set one after the other: the tables stand where they stood
 

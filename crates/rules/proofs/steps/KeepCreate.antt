@@ -9,7 +9,7 @@ use native.Mathlib.Omega.{arith}
 use borrow.Author.Tests.{leb-false, eqb-true, eqb-false}
 use lib.Dec.{eqb}
 use lib.ListN.{set}
-use Rattle.memory.specs.Geometry.{threesFor, mostDepth}
+use Rattle.memory.specs.Geometry.{mostDepth}
 use Rattle.memory.specs.Words.{overwrite, start, index, fill}
 use Rattle.memory.specs.Partition.{current, parent}
 use Rattle.rules.specs.Call.{createPartition}
@@ -23,11 +23,11 @@ use Rattle.rules.proofs.model.Abs.{Kind, pt, s1, s2, desc, Three, three
 use Rattle.rules.proofs.model.Facts.{differ}
 use Rattle.rules.proofs.model.Read.{rootPage, tablePage, tableAt, entryAt, putAt, put-there, root-page, entry-three, entry-is, hand-view, maps-three, three-is}
 use Rattle.rules.proofs.steps.Create.{depthM, createM, HandW, CreateChecks, create-words}
-use Rattle.rules.proofs.model.Format.{flat0}
 use Rattle.rules.proofs.model.Names.{PageAddress, good-page}
-use Rattle.rules.proofs.model.Inv.{fixed, Inv, live, cur-is}
+use Rattle.rules.proofs.model.Inv.{Inv, named, live, cur-is}
 use Rattle.rules.proofs.steps.Keep.{inv-create}
-use Rattle.rules.proofs.steps.Checks.{passed, Each, none-of, not-twice, in-hand}
+use Rattle.rules.proofs.Rows.{passed}
+use Rattle.rules.proofs.steps.Checks.{Each, none-of, not-twice, in-hand}
 
 -- ---- one word, as a list of one
 
@@ -100,17 +100,7 @@ each x y z s1 = y
 each x y z s2 = z
 
 module _ {b : ℕ} (wide : 6 ≤ b) (m : List ℕ) (i : Inv b m) where
-  abbrev N : ℕ
-  N = i .N
-
-  abbrev fl : ℕ → Option ℕ
-  fl = flat0 (i .N) (threesFor b (i .N))
-
-  abbrev f : List ℕ
-  f = fixed b (i .N)
-
-  abbrev A : Abs
-  A = i .state
+  open record (named b i) using (N, fl, f, A)
 
   abbrev o : ℕ
   o = current b m

@@ -26,7 +26,8 @@ use Rattle.rules.proofs.steps.DelKernel.{places, tablePages, kernel-is,
 use Rattle.rules.proofs.model.Format.{flat0}
 use Rattle.rules.proofs.model.Names.{good-page}
 use Rattle.rules.proofs.model.Inv.{fixed, Inv, moved, live, cur-is}
-use Rattle.rules.proofs.steps.Checks.{passed, a-child}
+use Rattle.rules.proofs.Rows.{passed}
+use Rattle.rules.proofs.steps.Checks.{a-child}
 
 module _ {b : ℕ} (wide : 6 ≤ b) (N : ℕ) (fl : ℕ → Option ℕ) (f m : List ℕ) (A : Abs) (wf : WF b N fl A) (en : Encodes b N f m A) (o D : ℕ) (pre : DelPre A o D) where
   abbrev c : ℕ

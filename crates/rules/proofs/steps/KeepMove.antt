@@ -20,7 +20,8 @@ use Rattle.rules.proofs.model.Walk.{parent-word}
 use Rattle.rules.proofs.model.Names.{good-page}
 use Rattle.rules.proofs.model.Inv.{fixed, Inv, live}
 use Rattle.rules.proofs.steps.Keep.{inv-move, inv-enter, inv-store}
-use Rattle.rules.proofs.steps.Checks.{passed, false-or, a-child, is-mapped}
+use Rattle.rules.proofs.Rows.{passed}
+use Rattle.rules.proofs.steps.Checks.{false-or, a-child, is-mapped}
 
 module _ {b : ℕ} (wide : 6 ≤ b) (m : List ℕ) (i : Inv b m) where
   pub keep-enter : (c : ℕ) → refusal b m (enter c) ≡ 0 → Inv b (effect b m (enter c))

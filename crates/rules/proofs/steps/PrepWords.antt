@@ -1,7 +1,7 @@
 -- The words of a new three: a word in each of the three roots, and six words and the count in the list.
 use mathlib.Core.Path.{_≡_, refl, sym, ap, _∙_, subst, subst₂}
 use mathlib.Core.Logic.{_≢_}
-use mathlib.Core.Bool.{Bool, false}
+use mathlib.Core.Bool.{false}
 use mathlib.Core.Option.{Option, none, some}
 use mathlib.Core.List.{List, [], _∷_, _++_}
 use Prim.Native.Nat.{ℕ, zero, suc, _+_, _-_, _*_, _≤_, _<_}
@@ -11,8 +11,10 @@ use lib.ListN.{length, getD}
 use Rattle.rules.proofs.model.Base.{eqd, upd-same, upd-other}
 use lib.ListN.{length-append, List·getD-append, List·getD-eq-default}
 use lib.Seq.{getD-append-add}
-use Rattle.rules.proofs.model.Words.{W, word, put, join, link, pte, Sized, put-sized, word-put-same, word-put-other, putL, putL-sized, putL-other, putL-at, putL-before, twelve-lt, idx-join, list-fits}
-use Rattle.rules.proofs.model.Abs.{Kind, pt, s1, s2, Role, header, hand, blank, desc, root, lst, tab, Hop, Three, Abs, Seen, seek, threeAt, WF, Encodes, isHand, ownWord, lentWord, seenWord, pageWord, cell, roleWord, descList, headList, listList, listPairs, linkWord, pair, tag}
+use Rattle.rules.proofs.model.Words.{W, word, put, join, link, Sized, put-sized, word-put-same, word-put-other, putL, putL-sized, putL-other, putL-at, putL-before, twelve-lt, idx-join, list-fits}
+use Rattle.rules.proofs.model.Abs.{Kind, pt, s1, s2, Role, header, hand, blank, desc, root, lst, tab, Hop, Three, Abs, threeAt, WF, Encodes, isHand, ownWord, cell, roleWord, descList, headList, listList, listPairs, linkWord, pair, tag}
+use Rattle.rules.proofs.model.Alike.{cells-same}
+use Rattle.rules.proofs.model.Apart.{pt-s1, pt-s2, s1-s2, root-part, lst-part}
 use Rattle.rules.proofs.model.Facts.{differ}
 use Rattle.rules.proofs.model.Read.{kernel-lt, cell-none, unmapped}
 use Rattle.rules.proofs.steps.Prep.{PrepPre, newThree, prepA, PrepView, is-P, is-old, view, at-append, at-last, at-on, at-nil, threes-new, prep-wf}
@@ -32,21 +34,6 @@ module _ {b : ℕ} (wide : 6 ≤ b) where
   unfolding listPairs six
   pairs-append ch [] i P = refl
   pairs-append ch (t ∷ ts) i P = rw (pairs-append ch ts i P) refl
-
-pt-s1 : {X : Type 0} → pt ≡ s1 → X
-pt-s1 e = let z : _≡_ {A = ℕ} 0 1 = cc in absurd (omega arith)
-
-pt-s2 : {X : Type 0} → pt ≡ s2 → X
-pt-s2 e = let z : _≡_ {A = ℕ} 0 1 = cc in absurd (omega arith)
-
-s1-s2 : {X : Type 0} → s1 ≡ s2 → X
-s1-s2 e = let z : _≡_ {A = ℕ} 0 1 = cc in absurd (omega arith)
-
-root-part : {k k′ : Kind} {d e : ℕ} → root k d ≡ root k′ e → d ≡ e
-root-part e = cc
-
-lst-part : {d e : ℕ} → lst d ≡ lst e → d ≡ e
-lst-part e = cc
 
 module _ {b : ℕ} (wide : 6 ≤ b) where
   module _ (N : ℕ) (fl : ℕ → Option ℕ) (f : List ℕ) (A : Abs) (wf : WF b N fl A) (o c i : ℕ) (P : Kind → ℕ) (pre : PrepPre b A o c i P) where
@@ -73,25 +60,8 @@ module _ {b : ℕ} (wide : 6 ≤ b) where
         go (is-P k x y) = (ap isHand y ∙ sym (ap isHand (ap (A .role) x ∙ pre .P-blank k)), ap ownWord y ∙ sym (ap ownWord (ap (A .role) x ∙ pre .P-blank k)))
         go (is-old _ y) = (ap isHand y, ap ownWord y)
 
-    lent-same : (q : ℕ) (x : Option ℕ) → lentWord b B (B .role q) x ≡ lentWord b A (A .role q) x
-    unfolding lentWord
-    lent-same q none = blank-same q .1
-    lent-same q (some d) = refl
-
-    seen-same : (k : Kind) (q : ℕ) (x : Option Seen) → seenWord b B k q x ≡ seenWord b A k q x
-    unfolding seenWord
-    seen-same k q none = refl
-    seen-same pt q (some s) = ap (λ (β : Bool). pte b q β (s .rt)) (blank-same q .0)
-    seen-same s1 q (some s) = lent-same q (s .below)
-    seen-same s2 q (some s) = refl
-
     prep-cells : (k : Kind) (d v : ℕ) → cell b B k d v ≡ cell b A k d v
-    unfolding cell pageWord
-    prep-cells k d v = go (A .maps d v)
-      where
-        go : (x : Option ℕ) → pageWord b B k d x ≡ pageWord b A k d x
-        go none = refl
-        go (some q) = seen-same k q (seek none d (A .chain q))
+    prep-cells = cells-same b A B refl refl blank-same
 
     R-role : (k : Kind) → A .role (R k) ≡ root k c
     R-role k = wf .root-role k c (pre .live)

@@ -22,8 +22,7 @@ use Rattle.rules.proofs.model.Names.{mapping-is}
 use Rattle.rules.proofs.model.Take.{Held, held-one, held-page, view-held}
 use Rattle.rules.proofs.steps.Prep.{PrepPre, newThree, prepA, PrepView, is-P, is-old, view, threes-keep, threes-new, prep-wf}
 use Rattle.rules.proofs.steps.PrepWords.{six, prepM, prep-words}
-use Rattle.rules.proofs.model.Format.{flat0}
-use Rattle.rules.proofs.model.Inv.{fixed, Inv, live}
+use Rattle.rules.proofs.model.Inv.{Inv, named, live}
 use Rattle.rules.proofs.steps.ChainChecks.{chained, PrepareChecks, prepare-checks}
 use Rattle.rules.proofs.steps.ListPage.{list-page, free-is, threes-is}
 use Rattle.rules.proofs.steps.ThreePages.{setThree, on-three, off-three, keep-three, take-three}
@@ -37,17 +36,7 @@ module _ (b : ℕ) where
       put b (putL b m₁ l n (a₁ ∷ addr b q₁ ∷ a₂ ∷ addr b q₂ ∷ a₃ ∷ addr b q₃ ∷ [])) l 0 (n + 6)
 
 module _ {b : ℕ} (wide : 6 ≤ b) (m : List ℕ) (i : Inv b m) (c t p : ℕ) (ck : PrepareChecks b m c t p) where
-  abbrev N : ℕ
-  N = i .N
-
-  abbrev fl : ℕ → Option ℕ
-  fl = flat0 (i .N) (Geometry.threesFor b (i .N))
-
-  abbrev f : List ℕ
-  f = fixed b (i .N)
-
-  abbrev A : Abs
-  A = i .state
+  open record (named b i) using (N, fl, f, A)
 
   abbrev wf : WF b N fl A
   wf = i .wf

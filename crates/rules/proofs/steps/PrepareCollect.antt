@@ -2,7 +2,6 @@
 use mathlib.Core.Path.{_≡_, refl, sym, ap, _∙_, subst}
 use mathlib.Core.Logic.{_≢_}
 use mathlib.Core.Bool.{Bool, false, not, _||_}
-use mathlib.Core.Option.{Option}
 use mathlib.Core.List.{List, [], _∷_}
 use Prim.Native.Nat.{ℕ, suc, _≤_, _<_}
 use native.Mathlib.Omega.{arith}
@@ -27,8 +26,7 @@ use Rattle.rules.proofs.model.Read
 use Rattle.rules.proofs.model.Read.{table-word}
 use Rattle.rules.proofs.steps.Fill as Fill
 use Rattle.rules.proofs.steps.Prep.{newThree}
-use Rattle.rules.proofs.model.Format.{flat0}
-use Rattle.rules.proofs.model.Inv.{fixed, Inv, live, cur-is}
+use Rattle.rules.proofs.model.Inv.{Inv, named, live, cur-is}
 use Rattle.rules.proofs.steps.ChainChecks.{PrepareChecks, prepare-checks}
 use Rattle.rules.proofs.model.Names.{tableFor-is}
 use Rattle.rules.proofs.steps.ThreeHeld.{Holds, shown}
@@ -45,17 +43,7 @@ none-in [] h = refl
 none-in (w ∷ ws) h = ap (λ (u : Bool). not u || any (λ w. not (eqb w 0)) ws) (eq-eqb w 0 (h 0)) ∙ none-in ws (λ j. h (suc j))
 
 module _ {b : ℕ} (wide : 6 ≤ b) (m : List ℕ) (i : Inv b m) (c t p : ℕ) (ck : PrepareChecks b m c t p) where
-  abbrev N : ℕ
-  N = i .N
-
-  abbrev fl : ℕ → Option ℕ
-  fl = flat0 (i .N) (Geometry.threesFor b (i .N))
-
-  abbrev f : List ℕ
-  f = fixed b (i .N)
-
-  abbrev A : Abs
-  A = i .state
+  open record (named b i) using (N, fl, f, A)
 
   abbrev m′ : List ℕ
   m′ = effect b m (prepare c t p)

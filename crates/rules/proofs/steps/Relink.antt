@@ -1,6 +1,5 @@
 -- The chain that collect leaves is that of the addresses in the list.
 use mathlib.Core.Path.{_≡_, sym, ap, _∙_, subst}
-use mathlib.Core.Option.{Option}
 use mathlib.Core.List.{List}
 use Prim.Native.Nat.{ℕ, _≤_}
 use Rattle.memory.specs.Geometry
@@ -14,8 +13,7 @@ use Rattle.rules.specs.Calls.{result, answer, after}
 use Rattle.rules.proofs.model.Words.{addr, word, link, idx, pageOf}
 use Rattle.rules.proofs.model.Abs.{Kind, pt, s1, s2, desc, Abs, headV}
 use Rattle.rules.proofs.steps.Fill.{First}
-use Rattle.rules.proofs.model.Format.{flat0}
-use Rattle.rules.proofs.model.Inv.{fixed, Inv, live, cur-is}
+use Rattle.rules.proofs.model.Inv.{Inv, named, live, cur-is}
 use Rattle.rules.proofs.steps.ChainChecks.{collect-checks}
 use Rattle.rules.proofs.steps.ThreeHeld.{triple, read-three}
 use Rattle.rules.proofs.steps.ChildPage.{first-mapping}
@@ -24,14 +22,7 @@ use Rattle.rules.proofs.steps.CollectThree.{H, next, collectedA, collec
 use Rattle.rules.specs.SameChain.{Chain, ThreeAt}
 
 module _ {b : ℕ} (wide : 6 ≤ b) (m : List ℕ) (i : Inv b m) (c t : ℕ) (fd : Found m i c t) where
-  abbrev N : ℕ
-  N = i .N
-
-  abbrev fl : ℕ → Option ℕ
-  fl = flat0 (i .N) (Geometry.threesFor b (i .N))
-
-  abbrev f : List ℕ
-  f = fixed b (i .N)
+  open record (named b i) using (N, fl, f)
 
   abbrev m″ : List ℕ
   m″ = effect b m (collect c t)

@@ -9,6 +9,7 @@ use lib.ListN.{length}
 use Rattle.rules.proofs.model.Base.{eqd, both, upd, upd-same, upd-other, upd2, upd2-same, upd2-other}
 use Rattle.rules.proofs.model.Words.{W, addr, put, idx, off, pageOf, accOf, pageOf-addr}
 use Rattle.rules.proofs.model.Abs.{Kind, pt, s1, s2, hand, desc, tab, Hop, Three, Abs, parts, headV, Seen, seek, threeAt, GoodHop, Good, WF, Cells, Encodes, isHand, ownWord, lentWord, seenWord, cell}
+use Rattle.rules.proofs.model.Apart.{cons-head}
 use Rattle.rules.proofs.model.Facts.{seek-here, seek-on, none-some, some-inj, nil-cons, not-hand, hand-desc, hand-header, Like, like, good-map, owner-hand, owner-live, parts-of, in-range, not-root, length-parts}
 use Rattle.rules.proofs.model.Cells.{updC, put-cell, tab-one, rechain, rechained, undo}
 use Rattle.rules.proofs.steps.Add.{AddPre, newHop, addA}
@@ -26,9 +27,6 @@ pub record RemPre (A : Abs) (o p c t r : ℕ) (hop : Hop) (rest : List Hop) : Ty
 
 abbrev pub remA : Abs → ℕ → ℕ → ℕ → Hop → List Hop → Abs
 remA A p c t hop rest = rechain A (upd (A .chain) p (hop ∷ rest)) (upd2 (A .maps) c t none)
-
-cons-head : {x y : ℕ} {xs ys : List ℕ} → x ∷ xs ≡ y ∷ ys → x ≡ y
-cons-head e = cc
 
 module _ {b : ℕ} (wide : 6 ≤ b) where
   module _ (N : ℕ) (fl : ℕ → Option ℕ) (A : Abs) (wf : WF b N fl A) (o p c t r : ℕ) (hop : Hop) (rest : List Hop) (pre : RemPre A o p c t r hop rest) where

@@ -23,10 +23,10 @@ use Rattle.rules.proofs.model.Facts.{is-hand}
 use Rattle.rules.proofs.model.Read.{rootPage, tableAt, entryAt, putAt, table-word}
 use Rattle.rules.proofs.model.Cells.{set-cell}
 use Rattle.rules.proofs.steps.Move.{setCur, free-put, cur-wf, cur-words}
-use Rattle.rules.proofs.model.Format.{flat0}
-use Rattle.rules.proofs.model.Inv.{fixed, Inv, live}
+use Rattle.rules.proofs.model.Inv.{Inv, named, live}
 use Rattle.rules.proofs.model.Names.{PageAddress, good-page}
-use Rattle.rules.proofs.steps.Checks.{passed, false-or, none-of, a-child}
+use Rattle.rules.proofs.Rows.{passed}
+use Rattle.rules.proofs.steps.Checks.{false-or, none-of, a-child}
 use Rattle.rules.proofs.steps.KeepMove.{parent-is}
 use Rattle.rules.proofs.sound.Views.{sees}
 use Rattle.rules.proofs.sound.Words.{virtual-fits, virtual-addr}
@@ -41,17 +41,7 @@ unfolding putAt tableAt
 put-absent b m k e v y z = putTableWord-absent b m (rootPage b m k e) v y z
 
 module _ {b : ℕ} (wide : 6 ≤ b) (m : List ℕ) (i : Inv b m) where
-  abbrev N : ℕ
-  N = i .N
-
-  abbrev fl : ℕ → Option ℕ
-  fl = flat0 (i .N) (Geometry.threesFor b (i .N))
-
-  abbrev f : List ℕ
-  f = fixed b (i .N)
-
-  abbrev A : Abs
-  A = i .state
+  open record (named b i) using (N, fl, f, A)
 
   abbrev o : ℕ
   o = Partition.current b m

@@ -21,10 +21,10 @@ use Rattle.rules.proofs.model.Abs.{pt, s1, Role, header, hand, blank, d
 use Rattle.rules.proofs.model.Facts.{differ, not-hand}
 use Rattle.rules.proofs.model.Read.{rootPage, entryAt, putAt, entry-is}
 use Rattle.rules.proofs.model.Take.{Held, held-step, held-one, held-page, take-one, view-held}
-use Rattle.rules.proofs.model.Format.{flat0}
-use Rattle.rules.proofs.model.Inv.{fixed, Inv, live}
+use Rattle.rules.proofs.model.Inv.{Inv, named, live}
 use Rattle.rules.proofs.model.Names.{PageAddress, good-page}
-use Rattle.rules.proofs.steps.Checks.{passed, Each, none-of, Distinct, not-twice, in-hand}
+use Rattle.rules.proofs.Rows.{passed}
+use Rattle.rules.proofs.steps.Checks.{Each, none-of, Distinct, not-twice, in-hand}
 use Rattle.rules.proofs.steps.CollectEffect.{fill-is}
 use Rattle.rules.proofs.steps.ThreeCarry.{loose-put, stay}
 use Rattle.rules.specs.SameChain.{ThreeAt}
@@ -106,17 +106,7 @@ module _ {b : ℕ} (wide : 6 ≤ b) (N : ℕ) (fl : ℕ → Option ℕ) (f : Lis
       })
 
 module _ {b : ℕ} (wide : 6 ≤ b) (m : List ℕ) (i : Inv b m) where
-  abbrev N : ℕ
-  N = i .N
-
-  abbrev fl : ℕ → Option ℕ
-  fl = flat0 (i .N) (Geometry.threesFor b (i .N))
-
-  abbrev f : List ℕ
-  f = fixed b (i .N)
-
-  abbrev A : Abs
-  A = i .state
+  open record (named b i) using (N, fl, f, A)
 
   abbrev o : ℕ
   o = Partition.current b m

@@ -1,7 +1,7 @@
 -- A three keeps its addresses in the list, in order, through every call that does not collect it and leaves its partition.
 use mathlib.Core.Path.{_≡_, refl, sym, ap, _∙_, subst}
 use mathlib.Core.Logic.{_≢_}
-use mathlib.Core.Option.{Option, none, some}
+use mathlib.Core.Option.{none, some}
 use mathlib.Core.List.{List, [], _∷_}
 use Prim.Native.Nat.{ℕ, zero, suc, _≤_}
 use native.Mathlib.Omega.{arith}
@@ -17,15 +17,15 @@ use Rattle.rules.specs.Refusals.{refusals, refusal}
 use Rattle.rules.specs.Effects.{delete, effect}
 use Rattle.rules.specs.Calls.{after, run}
 use Rattle.rules.proofs.model.Words.{addr, idx, pageOf}
-use Rattle.rules.proofs.model.Abs.{Kind, pt, Role, blank, desc, tab, Three, threeAt, Abs, headV, parts, Owner, Encodes}
+use Rattle.rules.proofs.model.Abs.{Kind, pt, Role, blank, desc, tab, Three, threeAt, headV, parts, Owner, Encodes}
 use Rattle.rules.proofs.model.Facts.{differ}
 use Rattle.rules.proofs.model.Read.{entryAt, three-is}
 use Rattle.rules.proofs.steps.Delete as Del
 use Rattle.rules.proofs.steps.Delete.{after-parts, cut-none, Fate, fate, through, owned, stays, fateRole, delRole, delA, DelPre, del-wf}
-use Rattle.rules.proofs.model.Format.{flat0}
-use Rattle.rules.proofs.model.Inv.{fixed, Inv, live, cur-is}
+use Rattle.rules.proofs.model.Inv.{Inv, named, live, cur-is}
 use Rattle.rules.proofs.model.Names.{good-page, mapping-is}
-use Rattle.rules.proofs.steps.Checks.{passed, a-child}
+use Rattle.rules.proofs.Rows.{passed}
+use Rattle.rules.proofs.steps.Checks.{a-child}
 use Rattle.rules.proofs.steps.KeepDelete.{deleted}
 use Rattle.rules.proofs.sound.Tree.{in-tree-live}
 use Rattle.rules.proofs.steps.Formatted.{inv-format}
@@ -42,17 +42,7 @@ use Rattle.rules.proofs.steps.ThreeCarry.{carry, stay-enter, stay-leave
 use Rattle.rules.proofs.steps.ThreeCreate.{stay-create}
 
 module _ {b : ℕ} (wide : 6 ≤ b) (m : List ℕ) (i : Inv b m) (d x : ℕ) (l : i .state .role d ≡ desc) {v₁ v₂ v₃ : ℕ} (th : ThreeAt b m d x v₁ v₂ v₃) where
-  abbrev N : ℕ
-  N = i .N
-
-  abbrev fl : ℕ → Option ℕ
-  fl = flat0 (i .N) (Geometry.threesFor b (i .N))
-
-  abbrev f : List ℕ
-  f = fixed b (i .N)
-
-  abbrev A : Abs
-  A = i .state
+  open record (named b i) using (N, fl, f, A)
 
   abbrev o : ℕ
   o = Partition.current b m

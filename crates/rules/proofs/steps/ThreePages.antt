@@ -11,21 +11,13 @@ use Rattle.rules.specs.Moves.{returnPage, takeAll, returnAll}
 use Rattle.rules.proofs.model.Base.{eqd, upd, upd-same, upd-other}
 use Rattle.rules.proofs.model.Words.{W, addr, word, idx, wipe, wipe-sized, wipe-same, wipe-other}
 use Rattle.rules.proofs.model.Abs.{Kind, pt, s1, s2, Role, hand, blank, desc, Abs, Good, WF, Cells, Encodes, EncodesC, isHand, cell, roleWord}
+use Rattle.rules.proofs.model.Apart.{pt-s1, pt-s2, s1-s2}
 use Rattle.rules.proofs.model.Facts.{differ, in-range}
 use Rattle.rules.proofs.model.Read.{entry-is}
 use Rattle.rules.proofs.model.Roles.{setRole}
 use Rattle.rules.proofs.model.Walk.{walk, flag, Fits, fits, hop-depth, walked}
 use Rattle.rules.proofs.model.Take.{Held, held-step, give-is, first-fits, first-page, take-one, give-one}
 use Rattle.rules.proofs.steps.Fill.{First}
-
-pub pt-s1 : {X : Type 0} → pt ≡ s1 → X
-pt-s1 e = let z : _≡_ {A = ℕ} 0 1 = cc in absurd (omega arith)
-
-pub pt-s2 : {X : Type 0} → pt ≡ s2 → X
-pt-s2 e = let z : _≡_ {A = ℕ} 0 1 = cc in absurd (omega arith)
-
-pub s1-s2 : {X : Type 0} → s1 ≡ s2 → X
-s1-s2 e = let z : _≡_ {A = ℕ} 0 1 = cc in absurd (omega arith)
 
 -- the three with role R
 abbrev pub setThree : Abs → (Kind → ℕ) → Role → Abs

@@ -1,4 +1,9 @@
 -- `access::partitions::enter_effect` meets its contract. The word written is the address of the page that the mapping names. Assumes nothing.
+use mathlib.Core.Path.{ap, _∙_}
+use Prim.Native.Nat.{ℕ}
+use Rattle.memory.specs.Geometry.{address, pageOf}
+use Rattle.memory.specs.Words.{put}
+use Rattle.moves.proofs.Caller.{caller-mapping}
 use borrow.Author.Needs.{needs}
 use Rattle.rules.specs.Effects.{effect}
 use Rattle.access.proofs.partitions.enter_effect.Statement.{statement}
@@ -21,7 +26,10 @@ same-length c = search needs
 
 returns : tie.Need-returns
 unfolding effect
-returns c = cc
+returns c =
+    let s = c .before .before .before .before .before .before .before .before .before .args in
+    let w = caller-mapping (s .b) (s .m .now) (s .c) (c .before .before .before .before .before .before .current .ensures) (c .before .before .before .before .before .mapping .ensures) in
+    c .before .before .write-word .ensures ∙ ap (λ (x : ℕ). put (s .b) (s .m .now) 0 4 x) (c .before .before .before .frame .ensures .0 ∙ ap (λ (w : ℕ). address (s .b) (pageOf (s .b) w)) w)
 
 pub enter-effect-spec : {M : Type 1} → statement M
 enter-effect-spec =

@@ -1,9 +1,9 @@
 -- `access::partitions::leave` meets its contract. The answer and the memory go by the number of the refusal. Assumes nothing.
-use mathlib.Core.Path.{refl, _∙_}
+use mathlib.Core.Path.{refl}
 use borrow.Author.Needs.{needs}
 use Rattle.rules.specs.Call.{leave}
 use Rattle.rules.specs.Calls.{result}
-use Rattle.moves.proofs.Whole.{answer-refused, after-refused, answer-done, after-done}
+use Rattle.moves.proofs.Whole.{refused, done}
 use Rattle.access.proofs.partitions.leave.Statement.{statement}
 use Rattle.access.proofs.partitions.leave.Tie as tie
 
@@ -20,7 +20,7 @@ returns : tie.Need-returns
 returns c =
     let s = c .before .before .before .before .before .args in
     let r = c .before .before .leave-refusal in
-    (c .reply .ensures ∙ answer-refused (s .b) (s .m .now) leave (r .result) (r .ensures .0) 0 (c .before .if1 .taken), after-refused (s .b) (s .m .now) leave (r .result) (r .ensures .0) (c .before .if1 .taken))
+    refused (s .b) (s .m .now) leave (r .result) (r .ensures .0) 0 (c .reply .ensures) (c .before .if1 .taken)
 
 leave-effect-requires : tie.Need-leave-effect-requires
 leave-effect-requires c κs = search needs
@@ -36,7 +36,7 @@ unfolding result
 returns-2 c =
     let s = c .before .before .before .before .before .before .before .before .before .args in
     let r = c .before .before .before .before .before .before .leave-refusal in
-    (c .reply2 .ensures ∙ answer-done (s .b) (s .m .now) leave (r .result) (r .ensures .0) 0 refl (c .before .before .before .before .before .if1 .left), c .before .before .before .leave-effect .ensures ∙ after-done (s .b) (s .m .now) leave (r .result) (r .ensures .0) (c .before .before .before .before .before .if1 .left))
+    done (s .b) (s .m .now) leave (r .result) (r .ensures .0) 0 (c .reply2 .ensures) refl (c .before .before .before .leave-effect .ensures) (c .before .before .before .before .before .if1 .left)
 
 pub leave-spec : {M : Type 1} → statement M
 leave-spec =

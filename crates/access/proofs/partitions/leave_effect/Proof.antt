@@ -1,4 +1,8 @@
 -- `access::partitions::leave_effect` meets its contract. The word written is the address of the page that word 11 names. Assumes nothing.
+use mathlib.Core.Path.{ap, _∙_}
+use Prim.Native.Nat.{ℕ}
+use Rattle.memory.specs.Geometry.{address, pageOf}
+use Rattle.memory.specs.Words.{word, put}
 use borrow.Author.Needs.{needs}
 use Rattle.rules.specs.Effects.{effect}
 use Rattle.access.proofs.partitions.leave_effect.Statement.{statement}
@@ -21,7 +25,10 @@ same-length c = search needs
 
 returns : tie.Need-returns
 unfolding effect
-returns c = cc
+returns c =
+    let s = c .before .before .before .before .before .before .before .before .before .args in
+    let w = c .before .before .before .before .before .read-word .ensures ∙ ap (λ (d : ℕ). word (s .b) (s .m .now) d 11) (c .before .before .before .before .before .before .current .ensures) in
+    c .before .before .write-word .ensures ∙ ap (λ (x : ℕ). put (s .b) (s .m .now) 0 4 x) (c .before .before .before .frame .ensures .0 ∙ ap (λ (w : ℕ). address (s .b) (pageOf (s .b) w)) w)
 
 pub leave-effect-spec : {M : Type 1} → statement M
 leave-effect-spec =

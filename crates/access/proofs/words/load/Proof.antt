@@ -1,11 +1,13 @@
 -- `access::words::load` meets its contract. The answer and the memory go by the number of the refusal. Assumes nothing.
-use mathlib.Core.Path.{_∙_}
+use Prim.Native.Nat.{ℕ}
+use lib.ListN.{getD}
+use mathlib.Core.Path.{refl, ap, _∙_}
 use borrow.Author.Needs.{needs}
 use Rattle.rules.specs.Call.{load}
 use Rattle.rules.specs.Calls.{result}
 use Rattle.rules.specs.Effects.{effect}
 use Rattle.rules.specs.Refusals.{refusals}
-use Rattle.moves.proofs.Whole.{answer-refused, after-refused, answer-done, after-done}
+use Rattle.moves.proofs.Whole.{refused, done}
 use Rattle.access.proofs.words.load.Statement.{statement}
 use Rattle.access.proofs.words.load.Tie as tie
 
@@ -21,7 +23,7 @@ returns c =
     let s = c .before .before .before .before .args in
     let r = c .before .before .refusal in
     let call = load (s .a) in
-    (c .reply .ensures ∙ answer-refused (s .b) (s .m .now) call (r .result) (r .ensures .0) 0 (c .before .if1 .taken), after-refused (s .b) (s .m .now) call (r .result) (r .ensures .0) (c .before .if1 .taken))
+    refused (s .b) (s .m .now) call (r .result) (r .ensures .0) 0 (c .reply .ensures) (c .before .if1 .taken)
 
 word-at-requires : tie.Need-word-at-requires
 word-at-requires c κs = search needs
@@ -38,7 +40,7 @@ returns-2 c =
     let s = c .before .before .before .before .before .before .args in
     let r = c .before .before .before .before .refusal in
     let call = load (s .a) in
-    (c .reply2 .ensures ∙ answer-done (s .b) (s .m .now) call (r .result) (r .ensures .0) _ (cc) (c .before .before .before .if1 .left), after-done (s .b) (s .m .now) call (r .result) (r .ensures .0) (c .before .before .before .if1 .left))
+    done (s .b) (s .m .now) call (r .result) (r .ensures .0) (c .before .read .result) (c .reply2 .ensures) (c .before .read .ensures ∙ ap (λ (i : ℕ). getD (s .m .now) i 0) (c .before .before .word-at .ensures)) refl (c .before .before .before .if1 .left)
 
 pub load-spec : {M : Type 1} → statement M
 load-spec =

@@ -1,10 +1,10 @@
 -- `access::words::store` meets its contract. The answer and the memory go by the number of the refusal. Assumes nothing.
-use mathlib.Core.Path.{refl, _∙_}
+use mathlib.Core.Path.{refl}
 use borrow.Author.Needs.{needs}
 use Rattle.rules.specs.Call.{store}
 use Rattle.rules.specs.Calls.{result}
 use Rattle.rules.specs.Refusals.{refusals}
-use Rattle.moves.proofs.Whole.{answer-refused, after-refused, answer-done, after-done}
+use Rattle.moves.proofs.Whole.{refused, done}
 use Rattle.access.proofs.words.store.Statement.{statement}
 use Rattle.access.proofs.words.store.Tie as tie
 
@@ -23,7 +23,7 @@ returns c =
     let s = c .before .before .before .before .before .args in
     let r = c .before .before .refusal in
     let call = store (s .a) (s .x) in
-    (c .reply .ensures ∙ answer-refused (s .b) (s .m .now) call (r .result) (r .ensures .0) 0 (c .before .if1 .taken), after-refused (s .b) (s .m .now) call (r .result) (r .ensures .0) (c .before .if1 .taken))
+    refused (s .b) (s .m .now) call (r .result) (r .ensures .0) 0 (c .reply .ensures) (c .before .if1 .taken)
 
 store-effect-requires : tie.Need-store-effect-requires
 store-effect-requires c κs = search needs
@@ -40,7 +40,7 @@ returns-2 c =
     let s = c .before .before .before .before .before .before .before .before .before .args in
     let r = c .before .before .before .before .before .before .refusal in
     let call = store (s .a) (s .x) in
-    (c .reply2 .ensures ∙ answer-done (s .b) (s .m .now) call (r .result) (r .ensures .0) 0 refl (c .before .before .before .before .before .if1 .left), c .before .before .before .store-effect .ensures ∙ after-done (s .b) (s .m .now) call (r .result) (r .ensures .0) (c .before .before .before .before .before .if1 .left))
+    done (s .b) (s .m .now) call (r .result) (r .ensures .0) 0 (c .reply2 .ensures) refl (c .before .before .before .store-effect .ensures) (c .before .before .before .before .before .if1 .left)
 
 pub store-spec : {M : Type 1} → statement M
 store-spec =

@@ -1,4 +1,9 @@
 -- `access::words::word_at` meets its contract. The page is that of the caller's mapping. Assumes nothing.
+use mathlib.Core.Path.{ap, ap₂, _∙_}
+use Prim.Native.Nat.{ℕ, _/_}
+use Rattle.memory.specs.Geometry.{pageOf}
+use Rattle.memory.specs.Words.{index}
+use Rattle.moves.proofs.Caller.{caller-mapping}
 use borrow.Author.Needs.{needs}
 use Rattle.access.proofs.words.word_at.Statement.{statement}
 use Rattle.access.proofs.words.word_at.Tie as tie
@@ -19,7 +24,10 @@ index-requires : tie.Need-index-requires
 index-requires c κs = search needs
 
 returns : tie.Need-returns
-returns c = cc
+returns c =
+    let s = c .before .before .before .before .before .before .args in
+    let p = c .before .before .page-of .ensures ∙ ap (λ (w : ℕ). pageOf (s .b) w) (caller-mapping (s .b) (s .m .now) (s .a) (c .before .before .before .before .current .ensures) (c .before .before .before .mapping .ensures)) in
+    c .index .ensures .0 ∙ ap₂ (λ (p i : ℕ). index (s .b) p (i / 4)) p (c .before .place .ensures)
 
 pub word-at-spec : {M : Type 1} → statement M
 word-at-spec =

@@ -30,10 +30,17 @@ same-length c = search needs
 
 returns : tie.Need-returns
 returns c =
-    let s = c .before .before .before .before .before .before .before .before .before .before .before .before .before .before .before .before .before .before .before .before .args in
-    add-is (s .b) (s .m .now) (s .p) (s .c) (s .t) (s .r) (c .before .before .before .before .before .before .before .before .before .before .before .before .before .before .before .before .before .current .result .0) (c .before .before .before .before .before .before .before .before .before .before .before .before .before .before .before .child-of .result .0) (c .before .before .before .before .before .before .before .before .before .before .before .before .before .mapping .result) (c .before .before .before .before .before .before .before .before .before .before .before .before .entry-of .result)
-    (c .before .before .before .before .before .before .before .before .before .before .set-mapping .last .1 .0) (c .before .before .before .before .before .before .set-above .last .1 .0) (c .before .before .set-lent .last .1 .0)
-    (c .before .before .before .before .before .before .before .before .before .before .before .before .before .before .before .before .before .current .ensures) (c .before .before .before .before .before .before .before .before .before .before .before .before .before .before .before .child-of .ensures) (c .before .before .before .before .before .before .before .before .before .before .before .before .before .mapping .ensures) (c .before .before .before .before .before .before .before .before .before .before .before .before .entry-of .ensures) (c .before .before .before .before .before .before .before .before .before .before .set-mapping .ensures) (c .before .before .before .before .before .before .set-above .ensures) (c .before .before .set-lent .ensures)
+    let c₁ = c .before .before in
+    let c₂ = c₁ .before .before .before .before in
+    let c₃ = c₂ .before .before .before .before in
+    let c₄ = c₃ .before .before in
+    let c₅ = c₄ .before in
+    let c₆ = c₅ .before .before in
+    let c₇ = c₆ .before .before in
+    let c₈ = c₇ .before .before .before in
+    let s = c₈ .args in
+    add-is (s .b) (s .m .now) (s .p) (s .c) (s .t) (s .r)
+    (c₇ .current .ensures) (c₆ .child-of .ensures) (c₅ .mapping .ensures) (c₄ .entry-of .ensures) (c₃ .set-mapping .ensures) (c₂ .set-above .ensures) (c₁ .set-lent .ensures)
 
 pub add-effect-spec : {M : Type 1} → statement M
 add-effect-spec =

@@ -3,7 +3,7 @@ use mathlib.Core.Path.{refl, sym, _∙_}
 use borrow.Author.Needs.{needs}
 use Rattle.rules.specs.Call.{addVAddr}
 use Rattle.rules.specs.Calls.{result}
-use Rattle.moves.proofs.Whole.{answer-refused, after-refused, answer-done, after-done}
+use Rattle.moves.proofs.Whole.{refused, done}
 use Rattle.lending.proofs.Laws.{add-rights}
 use Rattle.lending.proofs.adding.add_vaddr.Statement.{statement}
 use Rattle.lending.proofs.adding.add_vaddr.Tie as tie
@@ -22,7 +22,7 @@ returns c =
     let s = c .before .before .before .before .before .args in
     let r = c .before .before .add-refusal in
     let call = addVAddr (s .p) (s .c) (s .t) (s .r) in
-    (c .reply .ensures ∙ answer-refused (s .b) (s .m .now) call (r .result) (r .ensures .0) 0 (c .before .if1 .taken), after-refused (s .b) (s .m .now) call (r .result) (r .ensures .0) (c .before .if1 .taken))
+    refused (s .b) (s .m .now) call (r .result) (r .ensures .0) 0 (c .reply .ensures) (c .before .if1 .taken)
 
 add-effect-requires : tie.Need-add-effect-requires
 add-effect-requires c κs =
@@ -41,7 +41,7 @@ returns-2 c =
     let s = c .before .before .before .before .before .before .before .before .before .args in
     let r = c .before .before .before .before .before .before .add-refusal in
     let call = addVAddr (s .p) (s .c) (s .t) (s .r) in
-    (c .reply2 .ensures ∙ answer-done (s .b) (s .m .now) call (r .result) (r .ensures .0) 0 refl (c .before .before .before .before .before .if1 .left), c .before .before .before .add-effect .ensures ∙ after-done (s .b) (s .m .now) call (r .result) (r .ensures .0) (c .before .before .before .before .before .if1 .left))
+    done (s .b) (s .m .now) call (r .result) (r .ensures .0) 0 (c .reply2 .ensures) refl (c .before .before .before .add-effect .ensures) (c .before .before .before .before .before .if1 .left)
 
 pub add-vaddr-spec : {M : Type 1} → statement M
 add-vaddr-spec =

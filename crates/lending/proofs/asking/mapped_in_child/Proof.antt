@@ -1,10 +1,10 @@
 -- `lending::asking::mapped_in_child` meets its contract. The answer and the memory go by the number of the refusal. Assumes nothing.
-use mathlib.Core.Path.{_∙_}
+use mathlib.Core.Path.{refl}
 use borrow.Author.Needs.{needs}
 use Rattle.rules.specs.Call.{mappedInChild}
 use Rattle.rules.specs.Calls.{result}
 use Rattle.rules.specs.Effects.{effect}
-use Rattle.moves.proofs.Whole.{answer-refused, after-refused, answer-done, after-done}
+use Rattle.moves.proofs.Whole.{refused, done}
 use Rattle.lending.proofs.asking.mapped_in_child.Statement.{statement}
 use Rattle.lending.proofs.asking.mapped_in_child.Tie as tie
 
@@ -19,7 +19,7 @@ returns c =
     let s = c .before .before .before .before .args in
     let r = c .before .before .mapped-refusal in
     let call = mappedInChild (s .p) in
-    (c .reply .ensures ∙ answer-refused (s .b) (s .m .now) call (r .result) (r .ensures .0) 0 (c .before .if1 .taken), after-refused (s .b) (s .m .now) call (r .result) (r .ensures .0) (c .before .if1 .taken))
+    refused (s .b) (s .m .now) call (r .result) (r .ensures .0) 0 (c .reply .ensures) (c .before .if1 .taken)
 
 lent-to-requires : tie.Need-lent-to-requires
 lent-to-requires c κs = search needs
@@ -33,7 +33,7 @@ returns-2 c =
     let s = c .before .before .before .before .before .args in
     let r = c .before .before .before .mapped-refusal in
     let call = mappedInChild (s .p) in
-    (c .reply2 .ensures ∙ answer-done (s .b) (s .m .now) call (r .result) (r .ensures .0) (c .before .lent-to .result) (c .before .lent-to .ensures) (c .before .before .if1 .left), after-done (s .b) (s .m .now) call (r .result) (r .ensures .0) (c .before .before .if1 .left))
+    done (s .b) (s .m .now) call (r .result) (r .ensures .0) (c .before .lent-to .result) (c .reply2 .ensures) (c .before .lent-to .ensures) refl (c .before .before .if1 .left)
 
 pub mapped-in-child-spec : {M : Type 1} → statement M
 mapped-in-child-spec =

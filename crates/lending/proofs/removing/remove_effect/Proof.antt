@@ -27,10 +27,16 @@ same-length c = search needs
 
 returns : tie.Need-returns
 returns c =
-    let s = c .before .before .before .before .before .before .before .before .before .before .before .before .before .before .before .before .before .before .before .args in
-    remove-is (s .b) (s .m .now) (s .c) (s .t) (c .before .before .before .before .before .before .before .before .before .before .before .before .before .before .before .before .current .result .0) (c .before .before .before .before .before .before .before .before .before .before .before .before .before .before .child-of .result .0) (c .before .before .before .before .before .before .before .before .before .before .before .before .above .result)
-    (c .before .before .before .before .before .before .before .before .before .before .set-mapping .last .1 .0) (c .before .before .before .before .before .before .set-above .last .1 .0) (c .before .before .set-lent .last .1 .0)
-    (c .before .before .before .before .before .before .before .before .before .before .before .before .before .before .before .before .current .ensures) (c .before .before .before .before .before .before .before .before .before .before .before .before .before .before .child-of .ensures) (c .before .before .before .before .before .before .before .before .before .before .before .before .above .ensures) (c .before .before .before .before .before .before .before .before .before .before .set-mapping .ensures) (c .before .before .before .before .before .before .set-above .ensures) (c .before .before .set-lent .ensures)
+    let c₁ = c .before .before in
+    let c₂ = c₁ .before .before .before .before in
+    let c₃ = c₂ .before .before .before .before in
+    let c₄ = c₃ .before .before in
+    let c₅ = c₄ .before .before in
+    let c₆ = c₅ .before .before in
+    let c₇ = c₆ .before .before .before in
+    let s = c₇ .args in
+    remove-is (s .b) (s .m .now) (s .c) (s .t)
+    (c₆ .current .ensures) (c₅ .child-of .ensures) (c₄ .above .ensures) (c₃ .set-mapping .ensures) (c₂ .set-above .ensures) (c₁ .set-lent .ensures)
 
 pub remove-effect-spec : {M : Type 1} → statement M
 remove-effect-spec =

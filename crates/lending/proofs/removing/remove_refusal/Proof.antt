@@ -1,54 +1,27 @@
--- `lending::removing::remove_refusal` meets its contract. Each test that the code makes is one of the row. Assumes nothing.
+-- `lending::removing::remove_refusal` meets its contract. Behind the shared checks, each test that the code makes is one of the row. Assumes nothing.
 use mathlib.Core.Bool.{not}
 use mathlib.Core.Path.{sym, ap, _∙_}
 use Prim.Native.Nat.{ℕ}
 use native.Mathlib.Omega.{arith}
 use borrow.Author.Needs.{needs}
 use Rattle.memory.specs.Partition.{inHand}
-use Rattle.rules.proofs.Rows.{on, at, none, first-is}
+use Rattle.rules.proofs.Rows.{on, at, none, first-is, stops, goes-on}
 use Rattle.rules.specs.Conditions.{noThree, unmapped}
 use Rattle.rules.specs.Refusals.{refusals}
 use Rattle.lending.proofs.removing.remove_refusal.Statement.{statement}
 use Rattle.lending.proofs.removing.remove_refusal.Tie as tie
 
+slice-aggregate-child-refusal : tie.Need-slice-aggregate-child-refusal
+slice-aggregate-child-refusal c = search needs
+
+child-refusal-requires : tie.Need-child-refusal-requires
+child-refusal-requires c κs = search needs
+
 returns : tie.Need-returns
 unfolding refusals
 returns c =
-    let s = c .before .before .args in (
-      sym (first-is
-          (at (ap not (sym (c .before .before .pre .1)) ∙ c .if1 .taken))),
-      omega arith,
-    )
-
-slice-aggregate-any-bad : tie.Need-slice-aggregate-any-bad
-slice-aggregate-any-bad c = search needs
-
-any-bad-requires : tie.Need-any-bad-requires
-any-bad-requires c κs = search needs
-
-returns-2 : tie.Need-returns-2
-unfolding refusals
-returns-2 c =
-    let s = c .before .before .before .before .before .args in (
-      sym (first-is
-          (on (ap not (sym (c .before .before .before .before .before .pre .1)) ∙ c .before .before .before .if1 .left)
-          (at (sym (c .before .any-bad .ensures) ∙ c .if2 .taken)))),
-      omega arith,
-    )
-
-no-child-requires : tie.Need-no-child-requires
-no-child-requires c κs = search needs
-
-returns-3 : tie.Need-returns-3
-unfolding refusals
-returns-3 c =
-    let s = c .before .before .before .before .before .before .before .args in (
-      sym (first-is
-          (on (ap not (sym (c .before .before .before .before .before .before .before .pre .1)) ∙ c .before .before .before .before .before .if1 .left)
-          (on (sym (c .before .before .before .any-bad .ensures) ∙ c .before .before .if2 .left)
-          (at (sym (c .before .no-child .ensures) ∙ c .if3 .taken))))),
-      omega arith,
-    )
+    let r = c .before .child-refusal in
+    (stops _ _ _ (r .ensures .0) (c .if1 .taken), r .ensures .1)
 
 child-of-requires : tie.Need-child-of-requires
 child-of-requires c κs = search needs
@@ -56,63 +29,68 @@ child-of-requires c κs = search needs
 no-three-requires : tie.Need-no-three-requires
 no-three-requires c κs = search needs
 
-returns-4 : tie.Need-returns-4
+returns-2 : tie.Need-returns-2
 unfolding refusals
-returns-4 c =
-    let s = c .before .before .before .before .before .before .before .before .before .before .args in (
+returns-2 c =
+    let c₁ = c .before .before .before in
+    let s = c₁ .before .before .before .before .args in
+    let k = c .before .before .child-of .ensures in (
       sym (first-is
-          (on (ap not (sym (c .before .before .before .before .before .before .before .before .before .before .pre .1)) ∙ c .before .before .before .before .before .before .before .before .if1 .left)
-          (on (sym (c .before .before .before .before .before .before .any-bad .ensures) ∙ c .before .before .before .before .before .if2 .left)
-          (on (sym (c .before .before .before .before .no-child .ensures) ∙ c .before .before .before .if3 .left)
-          (at (sym (c .before .no-three .ensures ∙ ap (λ (d : ℕ). noThree (s .b) (s .m .now) d (s .t)) (c .before .before .child-of .ensures)) ∙ c .if4 .taken)))))),
+          (at (sym (c .before .no-three .ensures ∙ ap (λ (d : ℕ). noThree (s .b) (s .m .now) d (s .t)) k) ∙ c .if2 .taken)))
+          ∙ goes-on _ _ _ (c₁ .before .child-refusal .ensures .0) (c₁ .if1 .left),
       omega arith,
     )
 
 unmapped-requires : tie.Need-unmapped-requires
 unmapped-requires c κs = search needs
 
-returns-5 : tie.Need-returns-5
+returns-3 : tie.Need-returns-3
 unfolding refusals
-returns-5 c =
-    let s = c .before .before .before .before .before .before .before .before .before .before .before .before .args in (
+returns-3 c =
+    let c₁ = c .before .before in
+    let c₂ = c₁ .before .before .before in
+    let s = c₂ .before .before .before .before .args in
+    let k = c₁ .before .before .child-of .ensures in (
       sym (first-is
-          (on (ap not (sym (c .before .before .before .before .before .before .before .before .before .before .before .before .pre .1)) ∙ c .before .before .before .before .before .before .before .before .before .before .if1 .left)
-          (on (sym (c .before .before .before .before .before .before .before .before .any-bad .ensures) ∙ c .before .before .before .before .before .before .before .if2 .left)
-          (on (sym (c .before .before .before .before .before .before .no-child .ensures) ∙ c .before .before .before .before .before .if3 .left)
-          (on (sym (c .before .before .before .no-three .ensures ∙ ap (λ (d : ℕ). noThree (s .b) (s .m .now) d (s .t)) (c .before .before .before .before .child-of .ensures)) ∙ c .before .before .if4 .left)
-          (at (sym (c .before .unmapped .ensures ∙ ap (λ (d : ℕ). unmapped (s .b) (s .m .now) d (s .t)) (c .before .before .before .before .child-of .ensures)) ∙ c .if5 .taken))))))),
+          (on (sym (c₁ .before .no-three .ensures ∙ ap (λ (d : ℕ). noThree (s .b) (s .m .now) d (s .t)) k) ∙ c₁ .if2 .left)
+          (at (sym (c .before .unmapped .ensures ∙ ap (λ (d : ℕ). unmapped (s .b) (s .m .now) d (s .t)) k) ∙ c .if3 .taken))))
+          ∙ goes-on _ _ _ (c₂ .before .child-refusal .ensures .0) (c₂ .if1 .left),
       omega arith,
     )
 
 in-hand-requires : tie.Need-in-hand-requires
 in-hand-requires c κs = search needs
 
-returns-6 : tie.Need-returns-6
+returns-4 : tie.Need-returns-4
 unfolding refusals
-returns-6 c =
-    let s = c .before .before .before .before .before .before .before .before .before .before .before .before .before .before .args in (
+returns-4 c =
+    let c₁ = c .before .before in
+    let c₂ = c₁ .before .before in
+    let c₃ = c₂ .before .before .before in
+    let s = c₃ .before .before .before .before .args in
+    let k = c₂ .before .before .child-of .ensures in (
       sym (first-is
-          (on (ap not (sym (c .before .before .before .before .before .before .before .before .before .before .before .before .before .before .pre .1)) ∙ c .before .before .before .before .before .before .before .before .before .before .before .before .if1 .left)
-          (on (sym (c .before .before .before .before .before .before .before .before .before .before .any-bad .ensures) ∙ c .before .before .before .before .before .before .before .before .before .if2 .left)
-          (on (sym (c .before .before .before .before .before .before .before .before .no-child .ensures) ∙ c .before .before .before .before .before .before .before .if3 .left)
-          (on (sym (c .before .before .before .before .before .no-three .ensures ∙ ap (λ (d : ℕ). noThree (s .b) (s .m .now) d (s .t)) (c .before .before .before .before .before .before .child-of .ensures)) ∙ c .before .before .before .before .if4 .left)
-          (on (sym (c .before .before .before .unmapped .ensures ∙ ap (λ (d : ℕ). unmapped (s .b) (s .m .now) d (s .t)) (c .before .before .before .before .before .before .child-of .ensures)) ∙ c .before .before .if5 .left)
-          (at (ap not (sym (c .before .in-hand .ensures ∙ ap (λ (d : ℕ). inHand (s .b) (s .m .now) d (s .t)) (c .before .before .before .before .before .before .child-of .ensures))) ∙ c .if6 .taken)))))))),
+          (on (sym (c₂ .before .no-three .ensures ∙ ap (λ (d : ℕ). noThree (s .b) (s .m .now) d (s .t)) k) ∙ c₂ .if2 .left)
+          (on (sym (c₁ .before .unmapped .ensures ∙ ap (λ (d : ℕ). unmapped (s .b) (s .m .now) d (s .t)) k) ∙ c₁ .if3 .left)
+          (at (ap not (sym (c .before .in-hand .ensures ∙ ap (λ (d : ℕ). inHand (s .b) (s .m .now) d (s .t)) k)) ∙ c .if4 .taken)))))
+          ∙ goes-on _ _ _ (c₃ .before .child-refusal .ensures .0) (c₃ .if1 .left),
       omega arith,
     )
 
-returns-7 : tie.Need-returns-7
+returns-5 : tie.Need-returns-5
 unfolding refusals
-returns-7 c =
-    let s = c .before .before .before .before .before .before .before .before .before .before .before .before .before .before .args in (
+returns-5 c =
+    let c₁ = c .before .before in
+    let c₂ = c₁ .before .before in
+    let c₃ = c₂ .before .before .before in
+    let s = c₃ .before .before .before .before .args in
+    let k = c₂ .before .before .child-of .ensures in (
       sym (first-is
-          (on (ap not (sym (c .before .before .before .before .before .before .before .before .before .before .before .before .before .before .pre .1)) ∙ c .before .before .before .before .before .before .before .before .before .before .before .before .if1 .left)
-          (on (sym (c .before .before .before .before .before .before .before .before .before .before .any-bad .ensures) ∙ c .before .before .before .before .before .before .before .before .before .if2 .left)
-          (on (sym (c .before .before .before .before .before .before .before .before .no-child .ensures) ∙ c .before .before .before .before .before .before .before .if3 .left)
-          (on (sym (c .before .before .before .before .before .no-three .ensures ∙ ap (λ (d : ℕ). noThree (s .b) (s .m .now) d (s .t)) (c .before .before .before .before .before .before .child-of .ensures)) ∙ c .before .before .before .before .if4 .left)
-          (on (sym (c .before .before .before .unmapped .ensures ∙ ap (λ (d : ℕ). unmapped (s .b) (s .m .now) d (s .t)) (c .before .before .before .before .before .before .child-of .ensures)) ∙ c .before .before .if5 .left)
-          (on (ap not (sym (c .before .in-hand .ensures ∙ ap (λ (d : ℕ). inHand (s .b) (s .m .now) d (s .t)) (c .before .before .before .before .before .before .child-of .ensures))) ∙ c .if6 .left)
-          none))))))),
+          (on (sym (c₂ .before .no-three .ensures ∙ ap (λ (d : ℕ). noThree (s .b) (s .m .now) d (s .t)) k) ∙ c₂ .if2 .left)
+          (on (sym (c₁ .before .unmapped .ensures ∙ ap (λ (d : ℕ). unmapped (s .b) (s .m .now) d (s .t)) k) ∙ c₁ .if3 .left)
+          (on (ap not (sym (c .before .in-hand .ensures ∙ ap (λ (d : ℕ). inHand (s .b) (s .m .now) d (s .t)) k)) ∙ c .if4 .left)
+          none))))
+          ∙ goes-on _ _ _ (c₃ .before .child-refusal .ensures .0) (c₃ .if1 .left),
       omega arith,
     )
 
@@ -120,17 +98,14 @@ pub remove-refusal-spec : {M : Type 1} → statement M
 remove-refusal-spec =
     tie.close
     (tie.spec
+    slice-aggregate-child-refusal
+    child-refusal-requires
     returns
-    slice-aggregate-any-bad
-    any-bad-requires
-    returns-2
-    no-child-requires
-    returns-3
     child-of-requires
     no-three-requires
-    returns-4
+    returns-2
     unmapped-requires
-    returns-5
+    returns-3
     in-hand-requires
-    returns-6
-    returns-7)
+    returns-4
+    returns-5)

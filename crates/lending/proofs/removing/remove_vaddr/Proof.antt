@@ -1,9 +1,8 @@
 -- `lending::removing::remove_vaddr` meets its contract. The answer and the memory go by the number of the refusal. Assumes nothing.
-use mathlib.Core.Path.{_∙_}
 use borrow.Author.Needs.{needs}
 use Rattle.rules.specs.Call.{removeVAddr}
 use Rattle.rules.specs.Calls.{result}
-use Rattle.moves.proofs.Whole.{answer-refused, after-refused, answer-done, after-done}
+use Rattle.moves.proofs.Whole.{refused, done}
 use Rattle.lending.proofs.removing.remove_vaddr.Statement.{statement}
 use Rattle.lending.proofs.removing.remove_vaddr.Tie as tie
 
@@ -21,7 +20,7 @@ returns c =
     let s = c .before .before .before .before .before .args in
     let r = c .before .before .remove-refusal in
     let call = removeVAddr (s .c) (s .t) in
-    (c .reply .ensures ∙ answer-refused (s .b) (s .m .now) call (r .result) (r .ensures .0) 0 (c .before .if1 .taken), after-refused (s .b) (s .m .now) call (r .result) (r .ensures .0) (c .before .if1 .taken))
+    refused (s .b) (s .m .now) call (r .result) (r .ensures .0) 0 (c .reply .ensures) (c .before .if1 .taken)
 
 remove-effect-requires : tie.Need-remove-effect-requires
 remove-effect-requires c κs = search needs
@@ -39,7 +38,7 @@ returns-2 c =
     let r = c .before .before .before .before .before .before .remove-refusal in
     let x = c .before .before .before .remove-effect in
     let call = removeVAddr (s .c) (s .t) in
-    (c .reply2 .ensures ∙ answer-done (s .b) (s .m .now) call (r .result) (r .ensures .0) (x .result) (x .ensures .0) (c .before .before .before .before .before .if1 .left), x .ensures .1 ∙ after-done (s .b) (s .m .now) call (r .result) (r .ensures .0) (c .before .before .before .before .before .if1 .left))
+    done (s .b) (s .m .now) call (r .result) (r .ensures .0) (x .result) (c .reply2 .ensures) (x .ensures .0) (x .ensures .1) (c .before .before .before .before .before .if1 .left)
 
 pub remove-vaddr-spec : {M : Type 1} → statement M
 remove-vaddr-spec =

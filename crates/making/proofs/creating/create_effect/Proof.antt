@@ -78,9 +78,8 @@ returns c =
     let c₁₂ = c₁₁ .before .before in
     let s = c₁₂ .before .before .before in
     let five : length (s .args .t3) ≡ 5 = omega (arith, s .good .1 .1 .0) in
-    effect-is (s .args .b) (s .args .m .now) (c₁₂ .current .result .0) (c₁₁ .read-word .result) (c₁₀ .frame .result) (c₈ .mapping .result)
-    (c₆ .mapping2 .result) (c₇ .page-of .result .0) (c₅ .page-of2 .result .0) (c₉ .descriptor-words .result)
-    (c₄ .take-all .last .1 .0) (c₃ .fill-page .last .1 .0) (c₂ .write-word .last .1 .0) (c₁ .set-lent .last .1 .0) (s .args .t3) five
+    effect-is (s .args .b) (s .args .m .now)
+    (s .args .t3) five
     (c₁₂ .current .ensures) (c₁₁ .read-word .ensures) (c₁₀ .frame .ensures .0) (c₉ .descriptor-words .ensures) (c₈ .mapping .ensures)
     (c₇ .page-of .ensures) (c₆ .mapping2 .ensures) (c₅ .page-of2 .ensures)
     (c₄ .take-all .ensures) (c₃ .fill-page .ensures) (c₂ .write-word .ensures) (c₁ .set-lent .ensures)

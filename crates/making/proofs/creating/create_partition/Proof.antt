@@ -1,8 +1,8 @@
 -- `making::creating::create_partition` meets its contract. By whether there is a refusal. Assumes nothing.
-use mathlib.Core.Path.{refl, _∙_}
+use mathlib.Core.Path.{refl}
 use borrow.Author.Needs.{needs}
 use Rattle.rules.specs.Calls.{result}
-use Rattle.moves.proofs.Whole.{answer-refused, after-refused, answer-done, after-done}
+use Rattle.moves.proofs.Whole.{refused, done}
 use Rattle.making.specs.Group.{creating}
 use Rattle.making.proofs.creating.create_partition.Statement.{statement}
 use Rattle.making.proofs.creating.create_partition.Tie as tie
@@ -19,10 +19,8 @@ same-length c = search needs
 returns : tie.Need-returns
 returns c =
     let s = c .before .before .before .before .before .args in
-    let r = c .before .before .create-refusal in (
-      c .reply .ensures ∙ answer-refused (s .b) (s .m .now) (creating (s .five)) (r .result) (r .ensures .0) 0 (c .before .if1 .taken),
-      after-refused (s .b) (s .m .now) (creating (s .five)) (r .result) (r .ensures .0) (c .before .if1 .taken),
-    )
+    let r = c .before .before .create-refusal in
+    refused (s .b) (s .m .now) (creating (s .five)) (r .result) (r .ensures .0) 0 (c .reply .ensures) (c .before .if1 .taken)
 
 create-effect-requires : tie.Need-create-effect-requires
 create-effect-requires c κs = search needs
@@ -37,10 +35,8 @@ returns-2 : tie.Need-returns-2
 unfolding result
 returns-2 c =
     let s = c .before .before .before .before .before .before .before .before .before .args in
-    let r = c .before .before .before .before .before .before .create-refusal in (
-      c .reply2 .ensures ∙ answer-done (s .b) (s .m .now) (creating (s .five)) (r .result) (r .ensures .0) 0 refl (c .before .before .before .before .before .if1 .left),
-      c .before .before .before .create-effect .ensures ∙ after-done (s .b) (s .m .now) (creating (s .five)) (r .result) (r .ensures .0) (c .before .before .before .before .before .if1 .left),
-    )
+    let r = c .before .before .before .before .before .before .create-refusal in
+    done (s .b) (s .m .now) (creating (s .five)) (r .result) (r .ensures .0) 0 (c .reply2 .ensures) refl (c .before .before .before .create-effect .ensures) (c .before .before .before .before .before .if1 .left)
 
 pub create-partition-spec : {M : Type 1} → statement M
 create-partition-spec =

@@ -1,8 +1,8 @@
--- `making::deleting::delete_effect` meets its contract. What each call leaves is what the definition has next; the words saved are those that the definition reads. Assumes nothing.
-use Prim.Native.Nat.{ℕ, _-_}
+-- `making::deleting::delete_effect` meets its contract. The words saved are those that the definition reads. Assumes nothing.
+use Prim.Native.Nat.{ℕ}
 use native.Mathlib.Omega.{arith}
 use borrow.Author.Needs.{needs}
-use lib.ListN.{take, replicate}
+use lib.ListN.{replicate}
 use Rattle.memory.specs.Partition.{list}
 use Rattle.making.proofs.Delete.{few-at, saved-part, effect-is}
 use Rattle.making.proofs.deleting.delete_effect.Statement.{statement}
@@ -82,9 +82,7 @@ returns c =
     let s = c₁₀ .before .before .before .args in
     let x = c₆ .save in
     let y = c₅ .save2 in
-    effect-is (s .b) (s .m .now) (s .c) (c₁₀ .current .result .0) (c₉ .child-of .result .0) (c₈ .list .result .0) (c₇ .listed-words .result)
-    (take (x .result - 0) (x .last .1 .1 .1 .1 .1 .0)) (take (y .result - 0) (y .last .1 .1 .1 .1 .1 .0))
-    (c₄ .release-all .last .1 .0) (c₃ .set-lent .last .1 .0) (c₂ .return-evens .last .1 .0) (c₁ .return-evens2 .last .1 .0)
+    effect-is (s .b) (s .m .now) (s .c)
     (c₁₀ .current .ensures) (c₉ .child-of .ensures) (c₈ .list .ensures) (c₇ .listed-words .ensures .0)
     (saved-part (replicate {A = ℕ} 10 0) (x .last .1 .1 .1 .1 .1 .0) _ (x .result) (x .ensures .0) (x .ensures .1) (omega arith))
     (saved-part (replicate {A = ℕ} 60 0) (y .last .1 .1 .1 .1 .1 .0) _ (y .result) (y .ensures .0) (y .ensures .1)

@@ -1,15 +1,20 @@
--- `making::deleting::delete_partition` meets its contract. By whether there is a refusal. A child that is not refused lists ten threes at most. Assumes nothing.
+-- `making::deleting::delete_partition` meets its contract. A child that is not refused lists ten threes at most. Assumes nothing.
 use mathlib.Core.Path.{refl, sym, _∙_}
 use borrow.Author.Needs.{needs}
 use Rattle.rules.specs.Calls.{result}
 use Rattle.rules.specs.Call.{deletePartition}
-use Rattle.moves.proofs.Whole.{answer-refused, after-refused, answer-done, after-done}
+use Rattle.rules.specs.Refusals.{refusals}
+use Rattle.moves.proofs.OnePage.{one-page}
+use Rattle.moves.proofs.Whole.{refused, done}
 use Rattle.making.proofs.Few.{child-some, child-few}
 use Rattle.making.proofs.deleting.delete_partition.Statement.{statement}
 use Rattle.making.proofs.deleting.delete_partition.Tie as tie
 
-delete-refusal-requires : tie.Need-delete-refusal-requires
-delete-refusal-requires c κs = search needs
+slice-aggregate-child-refusal : tie.Need-slice-aggregate-child-refusal
+slice-aggregate-child-refusal c = search needs
+
+child-refusal-requires : tie.Need-child-refusal-requires
+child-refusal-requires c κs = search needs
 
 reply-requires : tie.Need-reply-requires
 reply-requires c κs = search needs
@@ -18,18 +23,18 @@ same-length : tie.Need-same-length
 same-length c = search needs
 
 returns : tie.Need-returns
+unfolding refusals
 returns c =
-    let s = c .before .before .before .before .before .args in
-    let r = c .before .before .delete-refusal in (
-      c .reply .ensures ∙ answer-refused (s .b) (s .m .now) (deletePartition (s .c)) (r .result) (r .ensures .0) 0 (c .before .if1 .taken),
-      after-refused (s .b) (s .m .now) (deletePartition (s .c)) (r .result) (r .ensures .0) (c .before .if1 .taken),
-    )
+    let s = c .before .before .before .before .before .before .args in
+    let r = c .before .before .child-refusal in
+    refused (s .b) (s .m .now) (deletePartition (s .c)) (r .result) (one-page (s .b) (s .m .now) (s .c) _ (r .ensures .0)) 0 (c .reply .ensures) (c .before .if1 .taken)
 
 delete-effect-requires : tie.Need-delete-effect-requires
+unfolding refusals
 delete-effect-requires c κs =
-    let s = c .before .before .before .before .before .args in
-    let e = sym (c .before .before .delete-refusal .ensures .0) ∙ c .before .if1 .left in
-    (c .before .before .before .before .before .pre .0, (child-some (s .b) (s .m .now) (s .c) e, child-few (s .b) (s .m .now) (s .c) e))
+    let s = c .before .before .before .before .before .before .args in
+    let e = sym (one-page (s .b) (s .m .now) (s .c) _ (c .before .before .child-refusal .ensures .0)) ∙ c .before .if1 .left in
+    (c .before .before .before .before .before .before .pre .0, (child-some (s .b) (s .m .now) (s .c) e, child-few (s .b) (s .m .now) (s .c) e))
 
 reply-requires-2 : tie.Need-reply-requires-2
 reply-requires-2 c κs = search needs
@@ -38,19 +43,18 @@ same-length-2 : tie.Need-same-length-2
 same-length-2 c = search needs
 
 returns-2 : tie.Need-returns-2
-unfolding result
+unfolding refusals result
 returns-2 c =
-    let s = c .before .before .before .before .before .before .before .before .before .args in
-    let r = c .before .before .before .before .before .before .delete-refusal in (
-      c .reply2 .ensures ∙ answer-done (s .b) (s .m .now) (deletePartition (s .c)) (r .result) (r .ensures .0) 0 refl (c .before .before .before .before .before .if1 .left),
-      c .before .before .before .delete-effect .ensures ∙ after-done (s .b) (s .m .now) (deletePartition (s .c)) (r .result) (r .ensures .0) (c .before .before .before .before .before .if1 .left),
-    )
+    let s = c .before .before .before .before .before .before .before .before .before .before .args in
+    let r = c .before .before .before .before .before .before .child-refusal in
+    done (s .b) (s .m .now) (deletePartition (s .c)) (r .result) (one-page (s .b) (s .m .now) (s .c) _ (r .ensures .0)) 0 (c .reply2 .ensures) refl (c .before .before .before .delete-effect .ensures) (c .before .before .before .before .before .if1 .left)
 
 pub delete-partition-spec : {M : Type 1} → statement M
 delete-partition-spec =
     tie.close
     (tie.spec
-    delete-refusal-requires
+    slice-aggregate-child-refusal
+    child-refusal-requires
     reply-requires
     same-length
     returns

@@ -54,8 +54,8 @@ returns : tie.Need-returns
 returns c =
     let s = c .before .before .before .before .before .before .args in
     descriptor-is (s .b) (s .m .now) (s .d .0) (s .own) (c .before .before .before .before .frame-at .result) (c .before .before .before .frame-at2 .result) (c .before .before .frame-at3 .result) (c .before .frame-at4 .result)
-    (c .frame-at5 .result) (s .t5) (omega arith) (c .before .before .before .before .frame-at .ensures) (c .before .before .before .frame-at2 .ensures) (c .before .before .frame-at3 .ensures) (c .before .frame-at4 .ensures)
-    (c .frame-at5 .ensures)
+    (c .frame-at5 .result) (s .t5) (omega arith) (c .before .before .before .before .frame-at .ensures .0) (c .before .before .before .frame-at2 .ensures .0) (c .before .before .frame-at3 .ensures .0) (c .before .frame-at4 .ensures .0)
+    (c .frame-at5 .ensures .0)
 
 pub descriptor-words-spec : {M : Type 1} → statement M
 descriptor-words-spec =

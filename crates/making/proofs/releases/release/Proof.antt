@@ -1,4 +1,9 @@
 -- `making::releases::release` meets its contract. By whether the page is accessible. Assumes nothing.
+use mathlib.Core.Path.{sym, ap, _∙_}
+use mathlib.Core.List.{List}
+use Prim.Native.Nat.{ℕ}
+use Rattle.memory.specs.Entry.{accessible}
+use Rattle.rules.specs.Moves.{returnPage}
 use borrow.Author.Needs.{needs}
 use Rattle.rules.proofs.Releases.{release-shut, release-open}
 use Rattle.making.proofs.releases.release.Statement.{statement}
@@ -22,7 +27,9 @@ same-length c = search needs
 returns : tie.Need-returns
 returns c =
     let s = c .before .before .before .before .before .before .before .before .before .before .before .before .before .args in
-    cc (release-shut (s .b) (s .m .now) (s .d .0) (s .a) (cc))
+    let e = c .before .before .before .before .before .accessible .ensures ∙ ap (λ (w : ℕ). accessible w) (c .before .before .before .before .before .before .before .before .before .before .mapping .ensures) in
+    c .before .before .return-page .ensures ∙ ap (λ (x : List ℕ). returnPage (s .b) x (s .d .0) (s .a)) (c .before .before .before .before .before .before .before .before .set-lent .ensures)
+    ∙ sym (release-shut (s .b) (s .m .now) (s .d .0) (s .a) (sym e ∙ c .before .before .before .before .if1 .taken))
 
 same-length-2 : tie.Need-same-length-2
 same-length-2 c = search needs
@@ -30,7 +37,8 @@ same-length-2 c = search needs
 returns-2 : tie.Need-returns-2
 returns-2 c =
     let s = c .before .before .before .before .before .before .before .before .before .args in
-    cc (release-open (s .b) (s .m .now) (s .d .0) (s .a) (λ e. c .if1 .left (cc)))
+    let e = c .before .accessible .ensures ∙ ap (λ (w : ℕ). accessible w) (c .before .before .before .before .before .before .mapping .ensures) in
+    c .before .before .before .before .set-lent .ensures ∙ sym (release-open (s .b) (s .m .now) (s .d .0) (s .a) (λ q. c .if1 .left (e ∙ q)))
 
 pub release-spec : {M : Type 1} → statement M
 release-spec =

@@ -1,5 +1,5 @@
 -- `making::releases::release_if` meets its contract. By whether the page is lent to the child. Assumes nothing.
-use mathlib.Core.Path.{sym}
+use mathlib.Core.Path.{sym, _∙_}
 use borrow.Author.Needs.{needs}
 use Rattle.rules.proofs.Releases.{releasing-its, releasing-other}
 use Rattle.making.proofs.releases.release_if.Statement.{statement}
@@ -17,7 +17,7 @@ same-length c = search needs
 returns : tie.Need-returns
 returns c =
     let s = c .before .before .before .before .before .before .before .before .args in
-    cc (releasing-its (s .b) (s .m .now) (s .d .0) (s .a) (s .c) (cc))
+    c .before .before .release .ensures ∙ sym (releasing-its (s .b) (s .m .now) (s .d .0) (s .a) (s .c) (sym (c .before .before .before .before .before .lent .ensures) ∙ c .before .before .before .before .if1 .taken))
 
 same-length-2 : tie.Need-same-length-2
 same-length-2 c = search needs
@@ -25,7 +25,7 @@ same-length-2 c = search needs
 returns-2 : tie.Need-returns-2
 returns-2 c =
     let s = c .before .before .before .before .args in
-    sym (releasing-other (s .b) (s .m .now) (s .d .0) (s .a) (s .c) (λ e. c .if1 .left (cc)))
+    sym (releasing-other (s .b) (s .m .now) (s .d .0) (s .a) (s .c) (λ e. c .if1 .left (c .before .lent .ensures ∙ e)))
 
 pub release-if-spec : {M : Type 1} → statement M
 release-if-spec =

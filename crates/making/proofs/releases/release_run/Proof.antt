@@ -1,10 +1,11 @@
--- `making::releases::release_run` meets its contract. To release the pages left, from the memory as it is, is to release them all. The measure is what is left. Assumes nothing.
-use mathlib.Core.Path.{_≡_, sym, _∙_}
-use Prim.Native.Nat.{_+_, _-_, _≤_}
+-- `making::releases::release_run` meets its contract. To release the pages left is to release them all. The measure is what is left. Assumes nothing.
+use mathlib.Core.List.{List}
+use mathlib.Core.Path.{_≡_, sym, _∙_, ap, ap₂}
+use Prim.Native.Nat.{_+_, _-_, _≤_, ℕ}
 use native.Mathlib.Omega.{arith}
 use borrow.Author.Needs.{needs}
 use lib.ListN.{length}
-use Rattle.rules.proofs.Releases.{releaseAll-more, releaseAll-none, square-most, page-address-fits}
+use Rattle.rules.proofs.Releases.{releaseAll-more, releaseAll-none, square-most, page-address-fits, releasing}
 use Rattle.rules.specs.Effects.{releaseAll}
 use Rattle.making.proofs.releases.release_run.Statement.{statement}
 use Rattle.making.proofs.releases.release_run.Tie as tie
@@ -20,7 +21,7 @@ loop-holds c =
     let s = c .before .args in
     let e : s .n - 0 ≡ s .n = omega arith in
     let f : s .v .0 + 0 ≡ s .v .0 = omega arith in
-    (cc, search needs, search needs)
+    (ap₂ (λ (x y : ℕ). releaseAll (s .b) x y (s .m .now) (s .d .0) (s .c)) e f, search needs, search needs)
 
 add-t14 : tie.Need-add-t14 Inv-loop μ-loop
 add-t14 c = omega (arith, square-most (c .before .before .before .before .args .b) (c .before .before .before .before .pre .0 .1))
@@ -43,7 +44,13 @@ loop-again : tie.Need-loop-again Inv-loop μ-loop
 loop-again c =
     let s = c .before .before .before .before .before .before .before .before .args in
     let p = c .before .before .before .before .before .before .loop in
-    (cc (releaseAll-more (s .b) (s .d .0) (s .c) (p .m) (s .n) (s .v .0) (p .k) (omega arith)), omega arith, omega arith)
+    let e = c .before .before .release-if .ensures ∙ ap (λ (a : ℕ). releasing (s .b) (p .m) (s .d .0) a (s .c)) (c .before .before .before .start-of .ensures) in (
+      ap (λ (x : List ℕ). releaseAll (s .b) (s .n - (p .k + 1)) (s .v .0 + (p .k + 1)) x (s .d .0) (s .c)) e
+          ∙ sym (releaseAll-more (s .b) (s .d .0) (s .c) (p .m) (s .n) (s .v .0) (p .k) (omega arith))
+          ∙ p .inv .0,
+      omega arith,
+      omega arith,
+    )
 
 same-length : tie.Need-same-length Inv-loop μ-loop
 same-length c = search needs

@@ -1,4 +1,8 @@
 -- `moves::pages_moved::wipe_at` meets its contract. The page is that of the word of partition d. Assumes nothing.
+use mathlib.Core.Path.{ap, _∙_}
+use Prim.Native.Nat.{ℕ}
+use Rattle.memory.specs.Geometry.{pageOf}
+use Rattle.memory.specs.Words.{wipe}
 use borrow.Author.Needs.{needs}
 use Rattle.moves.proofs.pages_moved.wipe_at.Statement.{statement}
 use Rattle.moves.proofs.pages_moved.wipe_at.Tie as tie
@@ -16,7 +20,9 @@ same-length : tie.Need-same-length
 same-length c = search needs
 
 returns : tie.Need-returns
-returns c = cc
+returns c =
+    let s = c .before .before .before .before .before .before .before .before .args in
+    c .before .before .wipe-page .ensures ∙ ap (λ (p : ℕ). wipe (s .b) (s .m .now) p) (c .before .before .before .before .page-of .ensures ∙ ap (λ (w : ℕ). pageOf (s .b) w) (c .before .before .before .before .before .mapping .ensures))
 
 pub wipe-at-spec : {M : Type 1} → statement M
 wipe-at-spec =

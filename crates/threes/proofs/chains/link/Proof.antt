@@ -1,4 +1,9 @@
 -- `threes::chains::link` meets its contract. The word is read from the page that the mapping names. Assumes nothing.
+use mathlib.Core.Path.{ap, _∙_}
+use Prim.Native.Nat.{ℕ}
+use Rattle.memory.specs.Geometry.{pageOf}
+use Rattle.memory.specs.Words.{word}
+use Rattle.moves.proofs.Caller.{caller-mapping}
 use borrow.Author.Needs.{needs}
 use Rattle.threes.proofs.chains.link.Statement.{statement}
 use Rattle.threes.proofs.chains.link.Tie as tie
@@ -16,7 +21,10 @@ read-word-requires : tie.Need-read-word-requires
 read-word-requires c κs = search needs
 
 returns : tie.Need-returns
-returns c = cc
+returns c =
+    let s = c .before .before .before .before .before .args in
+    let p = c .before .page-of .ensures ∙ ap (λ (w : ℕ). pageOf (s .b) w) (caller-mapping (s .b) (s .m .now) (s .v) (c .before .before .before .current .ensures) (c .before .before .mapping .ensures)) in
+    c .read-word .ensures ∙ ap (λ (p : ℕ). word (s .b) (s .m .now) p 0) p
 
 pub link-spec : {M : Type 1} → statement M
 link-spec =

@@ -3,7 +3,7 @@ use mathlib.Core.Path.{sym, _∙_}
 use borrow.Author.Needs.{needs}
 use Rattle.rules.specs.Call.{collect}
 use Rattle.rules.specs.Calls.{result}
-use Rattle.moves.proofs.Whole.{answer-refused, after-refused, answer-done, after-done}
+use Rattle.moves.proofs.Whole.{refused, done}
 use Rattle.threes.proofs.StandLaws.{collect-stands}
 use Rattle.threes.proofs.collecting.collect.Statement.{statement}
 use Rattle.threes.proofs.collecting.collect.Tie as tie
@@ -22,7 +22,7 @@ returns c =
     let s = c .before .before .before .before .before .args in
     let r = c .before .before .collect-refusal in
     let call = collect (s .c) (s .t) in
-    (c .reply .ensures ∙ answer-refused (s .b) (s .m .now) call (r .result) (r .ensures .0) 0 (c .before .if1 .taken), after-refused (s .b) (s .m .now) call (r .result) (r .ensures .0) (c .before .if1 .taken))
+    refused (s .b) (s .m .now) call (r .result) (r .ensures .0) 0 (c .reply .ensures) (c .before .if1 .taken)
 
 collect-effect-requires : tie.Need-collect-effect-requires
 collect-effect-requires c κs =
@@ -41,7 +41,7 @@ returns-2 c =
     let r = c .before .before .before .before .before .before .collect-refusal in
     let x = c .before .before .before .collect-effect in
     let call = collect (s .c) (s .t) in
-    (c .reply2 .ensures ∙ answer-done (s .b) (s .m .now) call (r .result) (r .ensures .0) (x .result) (x .ensures .0) (c .before .before .before .before .before .if1 .left), x .ensures .1 ∙ after-done (s .b) (s .m .now) call (r .result) (r .ensures .0) (c .before .before .before .before .before .if1 .left))
+    done (s .b) (s .m .now) call (r .result) (r .ensures .0) (x .result) (c .reply2 .ensures) (x .ensures .0) (x .ensures .1) (c .before .before .before .before .before .if1 .left)
 
 pub collect-spec : {M : Type 1} → statement M
 collect-spec =

@@ -63,8 +63,11 @@ page-of-requires-2 c κs = c .before .before .before .before .before .before .be
 
 drop-listed-requires : tie.Need-drop-listed-requires
 drop-listed-requires c κs =
-    let s = c .before .before .before .before .before .before .before .before .before .before .before .before .before .before .before .before .before .before .before .before .before .before .args in
-    (c .before .before .before .before .before .before .before .before .before .before .before .before .before .before .before .before .before .before .before .before .before .before .pre .0, (subst (λ (k : ℕ). Standing (s .b) (s .m .now) k (s .t)) (sym (c .before .before .before .before .before .before .before .before .before .before .before .before .before .before .before .before .before .child-of .ensures)) (c .before .before .before .before .before .before .before .before .before .before .before .before .before .before .before .before .before .before .before .before .before .before .pre .1), c .before .before .before .before .before .before .before .before .before .before .before .before .before .before .before .three-place .ensures .0))
+    let c₁ = c .before .before .before .before .before .before .before .before .before .before .before .before .before .before .before in
+    let c₂ = c₁ .before .before in
+    let c₃ = c₂ .before .before .before .before .before in
+    let s = c₃ .args in
+    (c₃ .pre .0, (subst (λ (k : ℕ). Standing (s .b) (s .m .now) k (s .t)) (sym (c₂ .child-of .ensures)) (c₃ .pre .1), c₁ .three-place .ensures .0))
 
 return-chained-requires : tie.Need-return-chained-requires
 return-chained-requires c κs = c .before .before .before .before .before .before .before .before .before .before .before .before .before .before .before .before .before .before .before .before .before .before .before .before .before .before .pre .0
@@ -74,12 +77,24 @@ same-length c = search needs
 
 returns : tie.Need-returns
 returns c =
-    let s = c .before .before .before .before .before .before .before .before .before .before .before .before .before .before .before .before .before .before .before .before .before .before .before .before .before .before .before .before .before .args in
-    collect-is (s .b) (s .m .now) (s .c) (s .t) (c .before .before .before .before .before .before .before .before .before .before .before .before .before .before .before .before .before .before .before .before .before .before .before .before .before .before .current .result .0) (c .before .before .before .before .before .before .before .before .before .before .before .before .before .before .before .before .before .before .before .before .before .before .before .before .child-of .result .0) (c .before .before .before .before .before .before .before .before .before .before .before .before .before .before .before .before .before .before .before .before .before .before .three-place .result) (c .before .before .before .before .before .before .before .before .before .before .before .before .before .before .before .before .before .before .before .before .list .result .0)
-    (c .before .before .before .before .before .before .before .before .before .before .before .before .before .before .before .before .before .before .read-word .result) (c .before .before .before .before .before .before .before .before .before .before .before .before .before .before .before .before .read-word2 .result) (c .before .before .before .before .before .before .before .before .before .before .before .before .before .before .read-word3 .result) (c .before .before .before .before .before .before .before .before .before .before .before .before .mapping .result) (c .before .before .before .before .before .before .before .before .before .mapping2 .result) (c .before .before .before .before .before .before .before .before .before .before .before .page-of .result .0) (c .before .before .before .before .before .before .before .before .page-of2 .result .0)
-    (c .before .before .before .before .before .before .drop-listed .last .1 .0) (c .before .before .return-chained .last .1 .0)
-    (c .before .before .before .before .before .before .before .before .before .before .before .before .before .before .before .before .before .before .before .before .before .before .before .before .before .before .current .ensures) (c .before .before .before .before .before .before .before .before .before .before .before .before .before .before .before .before .before .before .before .before .before .before .before .before .child-of .ensures) (c .before .before .before .before .before .before .before .before .before .before .before .before .before .before .before .before .before .before .before .before .before .before .three-place .ensures .0) (c .before .before .before .before .before .before .before .before .before .before .before .before .before .before .before .before .before .before .before .before .list .ensures) (c .before .before .before .before .before .before .before .before .before .before .before .before .before .before .before .before .before .before .read-word .ensures) (c .before .before .before .before .before .before .before .before .before .before .before .before .before .before .before .before .read-word2 .ensures) (c .before .before .before .before .before .before .before .before .before .before .before .before .before .before .read-word3 .ensures)
-    (c .before .before .before .before .before .before .before .before .before .before .before .before .mapping .ensures) (c .before .before .before .before .before .before .before .before .before .before .before .page-of .ensures) (c .before .before .before .before .before .before .before .before .before .mapping2 .ensures) (c .before .before .before .before .before .before .before .before .page-of2 .ensures) (c .before .before .before .before .before .before .drop-listed .ensures) (c .before .before .return-chained .ensures)
+    let c₁ = c .before .before in
+    let c₂ = c₁ .before .before .before .before in
+    let c₃ = c₂ .before .before in
+    let c₄ = c₃ .before in
+    let c₅ = c₄ .before .before in
+    let c₆ = c₅ .before in
+    let c₇ = c₆ .before .before in
+    let c₈ = c₇ .before .before in
+    let c₉ = c₈ .before .before in
+    let c₁₀ = c₉ .before .before in
+    let c₁₁ = c₁₀ .before .before in
+    let c₁₂ = c₁₁ .before .before in
+    let c₁₃ = c₁₂ .before .before in
+    let c₁₄ = c₁₃ .before .before .before in
+    let s = c₁₄ .args in
+    collect-is (s .b) (s .m .now) (s .c) (s .t)
+    (c₁₃ .current .ensures) (c₁₂ .child-of .ensures) (c₁₁ .three-place .ensures .0) (c₁₀ .list .ensures) (c₉ .read-word .ensures) (c₈ .read-word2 .ensures) (c₇ .read-word3 .ensures)
+    (c₆ .mapping .ensures) (c₅ .page-of .ensures) (c₄ .mapping2 .ensures) (c₃ .page-of2 .ensures) (c₂ .drop-listed .ensures) (c₁ .return-chained .ensures)
 
 pub collect-effect-spec : {M : Type 1} → statement M
 collect-effect-spec =

@@ -1,4 +1,8 @@
 -- `threes::collecting::return_chained` meets its contract. The pages are returned and linked one after the other. Assumes nothing.
+use mathlib.Core.Path.{ap, _∙_}
+use mathlib.Core.List.{List}
+use Prim.Native.Nat.{ℕ}
+use Rattle.memory.specs.Words.{put}
 use borrow.Author.Needs.{needs}
 use Rattle.threes.proofs.collecting.return_chained.Statement.{statement}
 use Rattle.threes.proofs.collecting.return_chained.Tie as tie
@@ -19,7 +23,10 @@ same-length : tie.Need-same-length
 same-length c = search needs
 
 returns : tie.Need-returns
-returns c = cc
+returns c =
+    let s = c .before .before .before .before .before .before .before .before .before .before .before .before .before .before .args in
+    c .before .before .write-word2 .ensures ∙ ap (λ (x : List ℕ). put (s .b) x (s .second .0) 0 (s .y))
+    (c .before .before .before .before .before .before .write-word .ensures ∙ ap (λ (x : List ℕ). put (s .b) x (s .first .0) 0 (s .x)) (c .before .before .before .before .before .before .before .before .before .before .return-all .ensures))
 
 pub return-chained-spec : {M : Type 1} → statement M
 return-chained-spec =

@@ -1,4 +1,8 @@
 -- `threes::lists::append_three` meets its contract. The words and word 0 are written one after the other. Assumes nothing.
+use mathlib.Core.Path.{ap, _∙_}
+use mathlib.Core.List.{List}
+use Prim.Native.Nat.{ℕ, _+_}
+use Rattle.memory.specs.Words.{put, overwrite}
 use borrow.Author.Needs.{needs}
 use Rattle.threes.proofs.lists.append_three.Statement.{statement}
 use Rattle.threes.proofs.lists.append_three.Tie as tie
@@ -19,7 +23,10 @@ same-length : tie.Need-same-length
 same-length c = search needs
 
 returns : tie.Need-returns
-returns c = cc
+returns c =
+    let s = c .before .before .before .before .before .before .before .before .before .before .before .args in
+    c .before .before .write-word .ensures ∙ ap (λ (x : List ℕ). put (s .b) x (s .l .0) 0 (s .free + 6))
+    (c .before .before .before .before .before .before .put-words .ensures ∙ ap (λ (i : ℕ). overwrite (s .m .now) i (s .ws .now)) (c .before .before .before .before .before .before .before .before .index .ensures .0))
 
 pub append-three-spec : {M : Type 1} → statement M
 append-three-spec =

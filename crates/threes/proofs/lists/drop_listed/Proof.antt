@@ -21,8 +21,10 @@ directory-index-requires c κs = search needs
 
 drop-three-requires : tie.Need-drop-three-requires
 drop-three-requires c κs =
-    let s = c .before .before .before .before .before .before .before .before .args in
-    (c .before .before .before .before .before .before .before .before .pre .0, subst (λ (l : ℕ). Listed (s .b) (s .m .now) l (s .j)) (sym (c .before .before .before .before .before .list .ensures)) (subst (Listed (s .b) (s .m .now) _) (sym (c .before .before .before .before .before .before .before .before .pre .1 .1)) (c .before .before .before .before .before .before .before .before .pre .1 .0 .listed)))
+    let c₁ = c .before .before .before .before .before in
+    let c₂ = c₁ .before .before .before in
+    let s = c₂ .args in
+    (c₂ .pre .0, subst (λ (l : ℕ). Listed (s .b) (s .m .now) l (s .j)) (sym (c₁ .list .ensures)) (subst (Listed (s .b) (s .m .now) _) (sym (c₂ .pre .1 .1)) (c₂ .pre .1 .0 .listed)))
 
 put-three-requires : tie.Need-put-three-requires
 put-three-requires c κs = search needs
@@ -32,10 +34,17 @@ same-length c = search needs
 
 returns : tie.Need-returns
 returns c =
-    let s = c .before .before .before .before .before .before .before .before .before .before .before .before .before .before .before .args in
-    drop-listed-is (s .b) (c .before .before .before .before .before .before .before .before .before .before .before .before .before .before .before .pre .0 .0) (s .m .now) (s .k .0) (s .t) (c .before .before .before .before .before .before .before .before .before .before .before .before .before .before .before .pre .1 .0) (s .j) (c .before .before .before .before .before .before .before .before .before .before .before .before .list .result .0) (c .before .before .before .before .before .before .before .before .before .before .roots-of .result .directory .0) (c .before .before .before .before .before .before .before .before .before .before .roots-of .result .shadow1 .0) (c .before .before .before .before .before .before .before .before .before .before .roots-of .result .shadow2 .0)
-    (c .before .before .before .before .before .before .before .before .before .virtual-page .result .0) (c .before .before .before .before .before .before .before .before .directory-index .result) (c .before .before .before .before .before .before .drop-three .last .1 .0) (c .before .before .put-three .last .1 .0)
-    (c .before .before .before .before .before .before .before .before .before .before .before .before .before .before .before .pre .1 .1) (c .before .before .before .before .before .before .before .before .before .before .before .before .list .ensures) (c .before .before .before .before .before .before .before .before .before .before .roots-of .ensures .0) (c .before .before .before .before .before .before .before .before .before .before .roots-of .ensures .1) (c .before .before .before .before .before .before .before .before .before .before .roots-of .ensures .2) (c .before .before .before .before .before .before .before .before .before .virtual-page .ensures) (c .before .before .before .before .before .before .before .before .directory-index .ensures) (c .before .before .before .before .before .before .drop-three .ensures) (c .before .before .put-three .ensures)
+    let c₁ = c .before .before in
+    let c₂ = c₁ .before .before .before .before in
+    let c₃ = c₂ .before .before in
+    let c₄ = c₃ .before in
+    let c₅ = c₄ .before in
+    let c₆ = c₅ .before .before in
+    let c₇ = c₆ .before .before .before in
+    let s = c₇ .args in
+    drop-listed-is (s .b) (c₇ .pre .0 .0) (s .m .now) (s .k .0) (s .t) (c₇ .pre .1 .0) (s .j) (c₆ .list .result .0) (c₅ .roots-of .result .directory .0) (c₅ .roots-of .result .shadow1 .0) (c₅ .roots-of .result .shadow2 .0)
+    (c₄ .virtual-page .result .0) (c₃ .directory-index .result) (c₂ .drop-three .last .1 .0) (c₁ .put-three .last .1 .0)
+    (c₇ .pre .1 .1) (c₆ .list .ensures) (c₅ .roots-of .ensures .0) (c₅ .roots-of .ensures .1) (c₅ .roots-of .ensures .2) (c₄ .virtual-page .ensures) (c₃ .directory-index .ensures) (c₂ .drop-three .ensures) (c₁ .put-three .ensures)
 
 pub drop-listed-spec : {M : Type 1} → statement M
 drop-listed-spec =

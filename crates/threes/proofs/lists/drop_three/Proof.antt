@@ -68,13 +68,19 @@ same-length c = search needs
 
 returns : tie.Need-returns
 returns c =
-    let s = c .before .before .before .before .before .before .before .before .before .before .before .before .before .before .before .before .before .before .args in
-    let r = c .before .before .before .before .before .before .before .before .before .before .before .before .save in
+    let c₁ = c .before .before in
+    let c₂ = c₁ .before .before .before .before in
+    let c₃ = c₂ .before .before .before in
+    let c₄ = c₃ .before .before .before in
+    let c₅ = c₄ .before .before .before in
+    let c₆ = c₅ .before .before .before in
+    let s = c₆ .args in
+    let r = c₄ .save in
     let buf = r .last .1 .1 .1 .1 .1 .0 in
-    drop-three-is (s .b) (c .before .before .before .before .before .before .before .before .before .before .before .before .before .before .before .before .before .before .pre .0 .0) (s .m .now) (s .l .0) (s .j) (c .before .before .before .before .before .before .before .before .before .before .before .before .before .before .before .before .before .before .pre .1) (c .before .before .before .before .before .before .before .before .before .before .before .before .before .before .before .read-word .result) (r .result) buf (c .before .before .before .before .before .before .put-words .last .0) (c .before .before .write-word .last .1 .0)
-    (c .before .before .before .before .before .before .before .before .before .before .before .before .before .before .before .read-word .ensures) (r .ensures .1) (r .ensures .0)
-    (c .before .before .before .before .before .before .put-words .ensures ∙ ap₂ (λ (i k : ℕ). overwrite (s .m .now) i (take k buf)) (c .before .before .before .before .before .before .before .before .before .index .ensures .0) (sub-zero (r .result + 6)))
-    (c .before .before .write-word .ensures)
+    drop-three-is (s .b) (c₆ .pre .0 .0) (s .m .now) (s .l .0) (s .j) (c₆ .pre .1) (c₅ .read-word .result) (r .result) buf (c₂ .put-words .last .0) (c₁ .write-word .last .1 .0)
+    (c₅ .read-word .ensures) (r .ensures .1) (r .ensures .0)
+    (c₂ .put-words .ensures ∙ ap₂ (λ (i k : ℕ). overwrite (s .m .now) i (take k buf)) (c₃ .index .ensures .0) (sub-zero (r .result + 6)))
+    (c₁ .write-word .ensures)
 
 pub drop-three-spec : {M : Type 1} → statement M
 drop-three-spec =

@@ -1,4 +1,8 @@
 -- `threes::lists::put_three` meets its contract. The three stores are those of the definition, one after the other. Assumes nothing.
+use mathlib.Core.Path.{ap, _∙_}
+use mathlib.Core.List.{List}
+use Prim.Native.Nat.{ℕ}
+use Rattle.memory.specs.Words.{put}
 use borrow.Author.Needs.{needs}
 use Rattle.threes.proofs.lists.put_three.Statement.{statement}
 use Rattle.threes.proofs.lists.put_three.Tie as tie
@@ -16,7 +20,10 @@ same-length : tie.Need-same-length
 same-length c = search needs
 
 returns : tie.Need-returns
-returns c = cc
+returns c =
+    let s = c .before .before .before .before .before .before .before .before .before .before .before .before .before .args in
+    c .before .before .write-word3 .ensures ∙ ap (λ (x : List ℕ). put (s .b) x (s .r .shadow2 .0) (s .i) (s .z))
+    (c .before .before .before .before .before .before .write-word2 .ensures ∙ ap (λ (x : List ℕ). put (s .b) x (s .r .shadow1 .0) (s .i) (s .y)) (c .before .before .before .before .before .before .before .before .before .before .write-word .ensures))
 
 pub put-three-spec : {M : Type 1} → statement M
 put-three-spec =

@@ -42,10 +42,17 @@ read-word-requires c κs = search needs
 
 returns : tie.Need-returns Inv-loop μ-loop
 returns c =
-    let s = c .before .before .before .before .before .before .before .before .args in
-    let p = c .before .before .before .loop in (
-      sym (place-here (s .b) (s .m .now) (c .before .before .before .before .before .list .result .0) (c .before .before .before .before .before .before .table-for .result - 1) (c .before .before .before .before .threes .result) (p .j) (c .before .before .loop-test .taken) (sym (c .before .read-word .ensures) ∙ c .if1 .taken))
-          ∙ p .inv .0 ∙ place-is (s .b) (s .m .now) (s .k .0) (s .t) (c .before .before .before .before .threes .result) (c .before .before .before .before .before .list .result .0) (c .before .before .before .before .before .before .table-for .result) (c .before .before .before .before .threes .ensures) (c .before .before .before .before .before .list .ensures) (c .before .before .before .before .before .before .table-for .ensures),
+    let c₁ = c .before in
+    let c₂ = c₁ .before in
+    let c₃ = c₂ .before in
+    let c₄ = c₃ .before in
+    let c₅ = c₄ .before in
+    let c₆ = c₅ .before in
+    let c₇ = c₆ .before .before in
+    let s = c₇ .args in
+    let p = c₃ .loop in (
+      sym (place-here (s .b) (s .m .now) (c₅ .list .result .0) (c₆ .table-for .result - 1) (c₄ .threes .result) (p .j) (c₂ .loop-test .taken) (sym (c₁ .read-word .ensures) ∙ c .if1 .taken))
+          ∙ p .inv .0 ∙ place-is (s .b) (s .m .now) (s .k .0) (s .t) (c₄ .threes .result) (c₅ .list .result .0) (c₆ .table-for .result) (c₄ .threes .ensures) (c₅ .list .ensures) (c₆ .table-for .ensures),
       omega arith,
     )
 
@@ -57,9 +64,16 @@ loop-less c = search needs
 
 loop-again : tie.Need-loop-again Inv-loop μ-loop
 loop-again c =
-    let s = c .before .before .before .before .before .before .before .before .args in
-    let p = c .before .before .before .loop in
-    (sym (place-next (s .b) (s .m .now) (c .before .before .before .before .before .list .result .0) (c .before .before .before .before .before .before .table-for .result - 1) (c .before .before .before .before .threes .result) (p .j) (c .before .before .loop-test .taken) (λ q. c .if1 .left (c .before .read-word .ensures ∙ q))) ∙ p .inv .0, omega arith)
+    let c₁ = c .before in
+    let c₂ = c₁ .before in
+    let c₃ = c₂ .before in
+    let c₄ = c₃ .before in
+    let c₅ = c₄ .before in
+    let c₆ = c₅ .before in
+    let c₇ = c₆ .before .before in
+    let s = c₇ .args in
+    let p = c₃ .loop in
+    (sym (place-next (s .b) (s .m .now) (c₅ .list .result .0) (c₆ .table-for .result - 1) (c₄ .threes .result) (p .j) (c₂ .loop-test .taken) (λ q. c .if1 .left (c₁ .read-word .ensures ∙ q))) ∙ p .inv .0, omega arith)
 
 returns-2 : tie.Need-returns-2 Inv-loop μ-loop
 returns-2 c =

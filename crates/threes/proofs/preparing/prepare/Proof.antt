@@ -3,7 +3,7 @@ use mathlib.Core.Path.{refl, sym, _∙_}
 use borrow.Author.Needs.{needs}
 use Rattle.rules.specs.Call.{prepare}
 use Rattle.rules.specs.Calls.{result}
-use Rattle.moves.proofs.Whole.{answer-refused, after-refused, answer-done, after-done}
+use Rattle.moves.proofs.Whole.{refused, done}
 use Rattle.threes.proofs.StandLaws.{prepare-few}
 use Rattle.threes.proofs.preparing.prepare.Statement.{statement}
 use Rattle.threes.proofs.preparing.prepare.Tie as tie
@@ -22,7 +22,7 @@ returns c =
     let s = c .before .before .before .before .before .args in
     let r = c .before .before .prepare-refusal in
     let call = prepare (s .c) (s .t) (s .p) in
-    (c .reply .ensures ∙ answer-refused (s .b) (s .m .now) call (r .result) (r .ensures .0) 0 (c .before .if1 .taken), after-refused (s .b) (s .m .now) call (r .result) (r .ensures .0) (c .before .if1 .taken))
+    refused (s .b) (s .m .now) call (r .result) (r .ensures .0) 0 (c .reply .ensures) (c .before .if1 .taken)
 
 prepare-effect-requires : tie.Need-prepare-effect-requires
 prepare-effect-requires c κs =
@@ -41,7 +41,7 @@ returns-2 c =
     let s = c .before .before .before .before .before .before .before .before .before .args in
     let r = c .before .before .before .before .before .before .prepare-refusal in
     let call = prepare (s .c) (s .t) (s .p) in
-    (c .reply2 .ensures ∙ answer-done (s .b) (s .m .now) call (r .result) (r .ensures .0) 0 refl (c .before .before .before .before .before .if1 .left), c .before .before .before .prepare-effect .ensures ∙ after-done (s .b) (s .m .now) call (r .result) (r .ensures .0) (c .before .before .before .before .before .if1 .left))
+    done (s .b) (s .m .now) call (r .result) (r .ensures .0) 0 (c .reply2 .ensures) refl (c .before .before .before .prepare-effect .ensures) (c .before .before .before .before .before .if1 .left)
 
 pub prepare-spec : {M : Type 1} → statement M
 prepare-spec =

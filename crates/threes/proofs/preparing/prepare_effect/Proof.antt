@@ -66,23 +66,41 @@ put-three-requires c κs = c .before .before .before .before .before .before .be
 
 append-three-requires : tie.Need-append-three-requires
 append-three-requires c κs =
-    let s = c .before .before .before .before .before .before .before .before .before .before .before .before .before .before .before .before .before .before .before .before .before .before .before .before .before .before .before .before .before .before .before .before .before .before .args in
-    let e : c .before .before .before .before .before .before .before .before .before .before .before .before .before .before .before .before .before .before .before .before .before .before .before .before .before .read-word .result ≡ word (s .b) (s .m .now) (list (s .b) (s .m .now) (child (s .b) (s .m .now) (s .c))) 0 =
-    c .before .before .before .before .before .before .before .before .before .before .before .before .before .before .before .before .before .before .before .before .before .before .before .before .before .read-word .ensures ∙ ap (λ (l : ℕ). word (s .b) (s .m .now) l 0) (c .before .before .before .before .before .before .before .before .before .before .before .before .before .before .before .before .before .before .before .before .before .before .before .before .before .before .before .list .ensures ∙ ap (list (s .b) (s .m .now)) (c .before .before .before .before .before .before .before .before .before .before .before .before .before .before .before .before .before .before .before .before .before .before .before .before .before .before .before .before .before .child-of .ensures)) in
-    (c .before .before .before .before .before .before .before .before .before .before .before .before .before .before .before .before .before .before .before .before .before .before .before .before .before .before .before .before .before .before .before .before .before .before .pre .0, omega (arith, e, c .before .before .before .before .before .before .before .before .before .before .before .before .before .before .before .before .before .before .before .before .before .before .before .before .before .before .before .before .before .before .before .before .before .before .pre .1))
+    let c₁ = c .before .before .before .before .before .before .before .before .before .before .before .before .before .before .before .before .before .before .before .before .before .before .before .before .before in
+    let c₂ = c₁ .before .before in
+    let c₃ = c₂ .before .before in
+    let c₄ = c₃ .before .before .before .before .before in
+    let s = c₄ .args in
+    let e : c₁ .read-word .result ≡ word (s .b) (s .m .now) (list (s .b) (s .m .now) (child (s .b) (s .m .now) (s .c))) 0 =
+    c₁ .read-word .ensures ∙ ap (λ (l : ℕ). word (s .b) (s .m .now) l 0) (c₂ .list .ensures ∙ ap (list (s .b) (s .m .now)) (c₃ .child-of .ensures)) in
+    (c₄ .pre .0, omega (arith, e, c₄ .pre .1))
 
 same-length : tie.Need-same-length
 same-length c = search needs
 
 returns : tie.Need-returns
 returns c =
-    let s = c .before .before .before .before .before .before .before .before .before .before .before .before .before .before .before .before .before .before .before .before .before .before .before .before .before .before .before .before .before .before .before .before .before .before .before .before .before .args in
-    prepare-is (s .b) (s .m .now) (s .c) (s .t) (s .p) (c .before .before .before .before .before .before .before .before .before .before .before .before .before .before .before .before .before .before .before .before .before .before .before .before .before .before .before .before .before .before .before .before .before .before .current .result .0) (c .before .before .before .before .before .before .before .before .before .before .before .before .before .before .before .before .before .before .before .before .before .before .before .before .before .before .before .before .before .before .before .before .child-of .result .0) (c .before .before .before .before .before .before .before .before .before .before .before .before .before .before .before .before .before .before .before .before .before .before .before .before .before .before .before .before .before .before .list .result .0) (c .before .before .before .before .before .before .before .before .before .before .before .before .before .before .before .before .before .before .before .before .before .before .before .before .before .before .before .before .read-word .result)
-    (c .before .before .before .before .before .before .before .before .before .before .before .before .before .before .before .before .before .before .before .before .before .before .before .before .before .before .roots-of .result .directory .0) (c .before .before .before .before .before .before .before .before .before .before .before .before .before .before .before .before .before .before .before .before .before .before .before .before .before .before .roots-of .result .shadow1 .0) (c .before .before .before .before .before .before .before .before .before .before .before .before .before .before .before .before .before .before .before .before .before .before .before .before .before .before .roots-of .result .shadow2 .0) (c .before .before .before .before .before .before .before .before .before .before .before .before .before .before .before .before .before .before .before .before .before .before .before .before .before .virtual-page .result .0) (c .before .before .before .before .before .before .before .before .before .before .before .before .before .before .before .before .before .before .before .before .before .before .before .before .directory-index .result)
-    (c .before .before .before .before .before .before .before .before .before .before .before .before .before .before .before .before .before .before .before .before .before .before .link .result) (c .before .before .before .before .before .before .before .before .before .before .before .before .before .before .before .before .before .before .before .before .link2 .result) (c .before .before .before .before .before .before .before .before .before .before .before .before .before .before .before .before .before .before .frame-at .result) (c .before .before .before .before .before .before .before .before .before .before .before .before .before .before .before .before .frame-at2 .result) (c .before .before .before .before .before .before .before .before .before .before .before .before .before .before .frame-at3 .result) (c .before .before .before .before .before .before .before .before .before .before .before .take-all .last .1 .0) (c .before .before .before .before .before .before .before .put-three .last .1 .0) (c .before .before .append-three .last .1 .0)
-    (c .before .before .before .before .before .before .before .before .before .before .before .before .before .before .before .before .before .before .before .before .before .before .before .before .before .before .before .before .before .before .before .before .before .before .current .ensures) (c .before .before .before .before .before .before .before .before .before .before .before .before .before .before .before .before .before .before .before .before .before .before .before .before .before .before .before .before .before .before .before .before .child-of .ensures) (c .before .before .before .before .before .before .before .before .before .before .before .before .before .before .before .before .before .before .before .before .before .before .before .before .before .before .before .before .before .before .list .ensures) (c .before .before .before .before .before .before .before .before .before .before .before .before .before .before .before .before .before .before .before .before .before .before .before .before .before .before .before .before .read-word .ensures) (c .before .before .before .before .before .before .before .before .before .before .before .before .before .before .before .before .before .before .before .before .before .before .before .before .before .before .roots-of .ensures .0) (c .before .before .before .before .before .before .before .before .before .before .before .before .before .before .before .before .before .before .before .before .before .before .before .before .before .before .roots-of .ensures .1) (c .before .before .before .before .before .before .before .before .before .before .before .before .before .before .before .before .before .before .before .before .before .before .before .before .before .before .roots-of .ensures .2)
-    (c .before .before .before .before .before .before .before .before .before .before .before .before .before .before .before .before .before .before .before .before .before .before .before .before .before .virtual-page .ensures) (c .before .before .before .before .before .before .before .before .before .before .before .before .before .before .before .before .before .before .before .before .before .before .before .before .directory-index .ensures) (c .before .before .before .before .before .before .before .before .before .before .before .before .before .before .before .before .before .before .before .before .before .before .link .ensures) (c .before .before .before .before .before .before .before .before .before .before .before .before .before .before .before .before .before .before .before .before .link2 .ensures) (c .before .before .before .before .before .before .before .before .before .before .before .before .before .before .before .before .before .before .frame-at .ensures .0) (c .before .before .before .before .before .before .before .before .before .before .before .before .before .before .before .before .frame-at2 .ensures .0) (c .before .before .before .before .before .before .before .before .before .before .before .before .before .before .frame-at3 .ensures .0)
-    (c .before .before .before .before .before .before .before .before .before .before .before .take-all .ensures) (c .before .before .before .before .before .before .before .put-three .ensures) (c .before .before .append-three .ensures)
+    let c₁ = c .before .before in
+    let c₂ = c₁ .before .before .before .before .before in
+    let c₃ = c₂ .before .before .before .before in
+    let c₄ = c₃ .before .before .before in
+    let c₅ = c₄ .before .before in
+    let c₆ = c₅ .before .before in
+    let c₇ = c₆ .before .before in
+    let c₈ = c₇ .before .before in
+    let c₉ = c₈ .before .before in
+    let c₁₀ = c₉ .before in
+    let c₁₁ = c₁₀ .before in
+    let c₁₂ = c₁₁ .before .before in
+    let c₁₃ = c₁₂ .before .before in
+    let c₁₄ = c₁₃ .before .before in
+    let c₁₅ = c₁₄ .before .before in
+    let c₁₆ = c₁₅ .before .before .before in
+    let s = c₁₆ .args in
+    prepare-is (s .b) (s .m .now) (s .c) (s .t) (s .p)
+    (c₁₅ .current .ensures) (c₁₄ .child-of .ensures) (c₁₃ .list .ensures) (c₁₂ .read-word .ensures) (c₁₁ .roots-of .ensures .0) (c₁₁ .roots-of .ensures .1) (c₁₁ .roots-of .ensures .2)
+    (c₁₀ .virtual-page .ensures) (c₉ .directory-index .ensures) (c₈ .link .ensures) (c₇ .link2 .ensures) (c₆ .frame-at .ensures .0) (c₅ .frame-at2 .ensures .0) (c₄ .frame-at3 .ensures .0)
+    (c₃ .take-all .ensures) (c₂ .put-three .ensures) (c₁ .append-three .ensures)
 
 pub prepare-effect-spec : {M : Type 1} → statement M
 prepare-effect-spec =
