@@ -1,43 +1,20 @@
-// What format leaves: the sizes, and the words of the root's descriptor, directory, shadows and list.
+// What format leaves: the words of the root's descriptor, directory, shadows and list.
 use pages::PhysicalPage;
 use pages::VirtualPage;
 use pages::address;
+use pages::flat_pages;
 use pages::page_of;
-use pages::page_words;
 use pages::rights;
+use pages::threes_for;
 ghost use mathlib.Core.Path.{_≡_};
 ghost use mathlib.Core.Bool.{cond, _&&_};
-ghost use Prim.Native.Nat.{_+_, _-_, _*_, _<_};
+ghost use Prim.Native.Nat.{_+_, _*_, _<_};
 ghost use lib.Dec.{leb, eqb};
 ghost use Rattle.memory.specs.Geometry.{pageOf, threesFor, flatPages};
 ghost use Rattle.memory.specs.Entry;
 ghost use Rattle.memory.specs.Entry.{allRights};
 ghost use Rattle.memory.specs.Format.{rootDescriptorWord, rootDirectoryWord, rootListWord};
 ghost use Rattle.pages.specs.Width.{Width};
-
-// The difference, or 0 where there is none.
-fn minus(x: u32, y: u32) -> u32
-    ensures { λ r. ⌜ r ≡ x - y ⌝ }
-{
-    if x < y { 0 } else { x - y }
-}
-
-// T: "the smallest number with 67T ≥ N−5". It is worked out in 64 bits, since N may be any number.
-pub fn threes_for(b: u32, n: u32) -> u32
-    requires { ⌜ Width b ⌝ }
-    ensures { λ r. ⌜ (r ≡ threesFor b n) × (r < 67108864) ⌝ }
-{
-    let w = page_words(b) as u64;
-    (((minus(n, 5) as u64) + (w + 2)) / (w + 3)) as u32
-}
-
-// F: "N−6−3T"
-pub fn flat_pages(b: u32, n: u32) -> u32
-    requires { ⌜ Width b ⌝ }
-    ensures { λ r. ⌜ r ≡ flatPages b n ⌝ }
-{
-    minus(minus(n, 6), 3 * threes_for(b, n))
-}
 
 // "The root's virtual addresses in descriptor and list are 0, its parent 0."
 pub fn root_descriptor_word(b: u32, i: u32) -> u32

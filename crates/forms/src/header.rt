@@ -1,7 +1,6 @@
 // "Header and length as above".
 use crate::addresses::is_address;
 use crate::addresses::physical_address;
-use crate::formatted::threes_for;
 use crate::questions::Question;
 use crate::questions::each_word;
 use pages::PhysicalPage;
@@ -9,6 +8,7 @@ use pages::index;
 use pages::page_bytes;
 use pages::pages;
 use pages::read_word;
+use pages::threes_for;
 ghost use mathlib.Core.Path.{_≡_};
 ghost use mathlib.Core.Bool.{_&&_};
 ghost use Prim.Native.Nat.{_+_, _*_};

@@ -1,6 +1,7 @@
 use Prim.Native.Nat.{_+_, _/_, _%_}
 use borrow.Author.Tests.{eq-eqb, ne-eqb, le-leb, lt-leb}
-use Rattle.forms.proofs.Laws.Formatted.{address-small, descriptor-words}
+use Rattle.pages.proofs.Fits.{address-small}
+use Rattle.forms.proofs.Laws.Formatted.{descriptor-words}
 use mathlib.Core.Path.{_∙_}
 use native.Mathlib.Omega.{arith}
 use borrow.Author.Needs.{needs}

@@ -9,8 +9,6 @@ use Rattle.forms.proofs.formatted.root_mapping.Statement.{statement}
 use Rattle.forms.proofs.formatted.root_mapping.Tie as tie
 use Rattle.forms.proofs.formatted.root_mapping.Reads as reads
 use Rattle.forms.proofs.formatted.root_mapping.Lts as lts
-use Rattle.forms.proofs.formatted.flat_pages.Reads as flat-pages-reads
-use Rattle.forms.proofs.formatted.threes_for.Reads as threes-for-reads
 use Rattle.pages.proofs.page_of.Reads as page-of-reads
 use Rattle.pages.proofs.rights.Reads as rights-reads
 

@@ -11,7 +11,6 @@ use Rattle.forms.proofs.header.offsets_test.Reads as reads
 use Rattle.forms.proofs.header.offsets_test.Lts as lts
 use Rattle.forms.proofs.addresses.is_address.Reads as is-address-reads
 use Rattle.forms.proofs.addresses.physical_address.Reads as physical-address-reads
-use Rattle.forms.proofs.formatted.threes_for.Reads as threes-for-reads
 use Rattle.pages.proofs.pages.Reads as pages-reads
 use Rattle.pages.proofs.read_word.Reads as read-word-reads
 

@@ -1,9 +1,9 @@
 // The numbers of threes and of flat pages that format makes of n pages.
-use pages::page_words;
+use crate::widths::page_words;
 ghost use mathlib.Core.Path.{_≡_};
 ghost use Prim.Native.Nat.{_-_, _<_};
 ghost use Rattle.memory.specs.Geometry.{threesFor, flatPages};
 ghost use Rattle.pages.specs.Width.{Width};
 
 // The difference, or 0 where there is none.
 fn minus(x: u32, y: u32) -> u32
