@@ -30,25 +30,24 @@ pub fn root_descriptor_word(b: u32, i: u32) -> u32
     address(b, PhysicalPage(i / 2 + 1))
 }
 
-// "a table's physical address + 1": k is 0 for the directory, 1 and 2 for the shadows.
-pub fn root_directory_word(b: u32, n: u32, k: u32, i: u32) -> u32
+// "a table's physical address + 1": k is 0 for the directory, 1 and 2 for the shadows; t is the number of threes.
+pub fn root_directory_word(b: u32, n: u32, t: u32, k: u32, i: u32) -> u32
     requires { ⌜ Width b ⌝ }
-    requires small { ⌜ (k < 3) × (i < 1024) ⌝ }
+    requires sizes { ⌜ (t ≡ threesFor b n) × (k < 3) × (i < 1024) ⌝ }
     ensures { λ r. ⌜ r ≡ rootDirectoryWord b n k i ⌝ }
 {
-    if i < threes_for(b, n) {
+    if i < t {
         return address(b, PhysicalPage(6 + 3 * i + k)) + 1;
     }
     0
 }
 
 // "word 0 first free word index, 1+6n with n threes; then pairs (virtual in parent, physical)"
-pub fn root_list_word(b: u32, n: u32, i: u32) -> u32
+pub fn root_list_word(b: u32, n: u32, t: u32, i: u32) -> u32
     requires { ⌜ Width b ⌝ }
-    requires small { ⌜ i < 1024 ⌝ }
+    requires sizes { ⌜ (t ≡ threesFor b n) × (t < 67108864) × (i < 1024) ⌝ }
     ensures { λ r. ⌜ r ≡ rootListWord b n i ⌝ }
 {
-    let t = threes_for(b, n);
     if i == 0 {
         return 1 + 6 * t;
     }

@@ -1,8 +1,7 @@
 // "Header and length as above".
 use crate::addresses::is_address;
 use crate::addresses::physical_address;
-use crate::questions::Question;
-use crate::questions::each_word;
+use crate::words::zero_from;
 use pages::PhysicalPage;
 use pages::index;
 use pages::page_bytes;
@@ -80,5 +79,5 @@ pub fn header_test(b: u32, m: &[u32]) -> bool
     if !offsets_test(b, m) {
         return false;
     }
-    each_word(b, m, Question::Zero(PhysicalPage(0), 5))
+    zero_from(b, m, PhysicalPage(0), 5)
 }
