@@ -1,5 +1,7 @@
 pub mod Tests
 pub mod Loops
-pub mod Forms
+pub mod Indices
 pub mod Formatted
+pub mod Runs
+pub mod Asked
 pub mod Whole

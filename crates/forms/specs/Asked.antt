@@ -1,30 +1,35 @@
--- What is asked at an index, by its name in the code. Assumes nothing.
+-- What the code asks at one index or of one pair, put together from the tests of the crate soundness. Assumes nothing.
 use mathlib.Core.List.{List}
-use mathlib.Core.Bool.{Bool, not, _&&_, _||_}
+use mathlib.Core.Bool.{Bool, cond, not, _&&_, _||_}
 use Prim.Native.Nat.{ℕ, _+_, _*_}
-use lib.Dec.{leb, eqb}
+use lib.Dec.{eqb}
 use Rattle.walk.specs.Finite.{from, once}
-use Rattle.memory.specs.Geometry.{pageWords}
 use Rattle.memory.specs.Words.{word}
-use Rattle.memory.specs.Partition.{pages, directory, list, threes}
-use Rattle.memory.specs.Format.{rootDescriptorWord, rootDirectoryWord, rootListWord}
-use Rattle.soundness.specs.Test.{virtual, physical, directoryTest, stands, agrees, shutAt}
-use Rattle.forms.specs.declared.questions.Question.{Question}
-use Rattle.forms.specs.declared.questions.Question.the-variants.{Zero, DescriptorPair, ListPair, Directory, Three, Index, RootDescriptor, RootDirectory, RootShadow1, RootShadow2, RootList, DescriptorAgrees, ListAgrees, DescriptorShut, ListShut}
+use Rattle.memory.specs.Partition.{directory, shadow1, shadow2, threes}
+use Rattle.soundness.specs.Test.{virtual, physical, tableLink, directoryTest, stands, agrees, shutAt}
 
-abbrev pub asked : Question → ℕ → List ℕ → ℕ → Bool
-asked (Zero p k) b m i = not (leb k i) || eqb (word b m (p .0) i) 0
-asked (DescriptorPair d) b m j = virtual b (word b m (d .0) (2 * j)) && physical b m (word b m (d .0) (2 * j + 1))
-asked (ListPair d) b m j = virtual b (word b m (list b m (d .0)) (1 + 2 * j)) && physical b m (word b m (list b m (d .0)) (2 + 2 * j))
-asked (Directory d) b m i = directoryTest b m (d .0) i
-asked (Three d) b m j = once (stands b m (d .0) j) (from (pageWords b) 0)
-asked (Index d) b m i = eqb (word b m (directory b m (d .0)) i) 0 || once (λ j. stands b m (d .0) j i) (from (threes b m (d .0)) 0)
-asked RootDescriptor b m i = eqb (word b m 1 i) (rootDescriptorWord b i)
-asked RootDirectory b m i = eqb (word b m 2 i) (rootDirectoryWord b (pages b m) 0 i)
-asked RootShadow1 b m i = eqb (word b m 3 i) (rootDirectoryWord b (pages b m) 1 i)
-asked RootShadow2 b m i = eqb (word b m 4 i) (rootDirectoryWord b (pages b m) 2 i)
-asked RootList b m i = eqb (word b m 5 i) (rootListWord b (pages b m) i)
-asked (DescriptorAgrees d c) b m j = agrees b m (d .0) (word b m (c .0) (2 * j)) (word b m (c .0) (2 * j + 1))
-asked (ListAgrees d c) b m j = agrees b m (d .0) (word b m (list b m (c .0)) (1 + 2 * j)) (word b m (list b m (c .0)) (2 + 2 * j))
-asked (DescriptorShut d c) b m j = shutAt b m (d .0) (word b m (c .0) (2 * j))
-asked (ListShut d c) b m j = shutAt b m (d .0) (word b m (list b m (c .0)) (1 + 2 * j))
+module _ (b : ℕ) (m : List ℕ) where
+  -- w, x and y are the words of an index of a directory and its shadows
+  unfoldable pub links : ℕ → ℕ → ℕ → Bool
+  links w x y =
+      tableLink b m w && tableLink b m x && tableLink b m y
+      && cond (eqb w 0) (eqb x 0 && eqb y 0) (not (eqb x 0) && not (eqb y 0))
+
+  -- the words of index i of d's directory and shadows are w, x and y
+  unfoldable pub alike : ℕ → ℕ → ℕ → ℕ → ℕ → Bool
+  alike d w x y i = eqb (word b m (directory b m d) i) w && eqb (word b m (shadow1 b m d) i) x && eqb (word b m (shadow2 b m d) i) y
+
+  -- index i of d has no tables; it has the forms, and has no tables or is listed once
+  unfoldable pub noTables : ℕ → ℕ → Bool
+  noTables d i = alike d 0 0 0 i
+
+  unfoldable pub indexTest : ℕ → ℕ → Bool
+  indexTest d i =
+      directoryTest b m d i && (eqb (word b m (directory b m d) i) 0 || once (λ j. stands b m d j i) (from (threes b m d) 0))
+
+  -- pair j of page p, whose pairs start at word k: its form, and how it stands in the tables of d
+  unfoldable pub pairForm : ℕ → ℕ → ℕ → Bool
+  pairForm p k j = virtual b (word b m p (k + 2 * j)) && physical b m (word b m p (k + 1 + 2 * j))
+
+  unfoldable pub pairShut : ℕ → ℕ → ℕ → ℕ → Bool
+  pairShut d p k j = agrees b m d (word b m p (k + 2 * j)) (word b m p (k + 1 + 2 * j)) && shutAt b m d (word b m p (k + 2 * j))

@@ -1,43 +1,20 @@
-// What format leaves: the sizes, and the words of the root's descriptor, directory, shadows and list.
+// What format leaves: the words of the root's descriptor, directory, shadows and list.
 use pages::PhysicalPage;
 use pages::VirtualPage;
 use pages::address;
+use pages::flat_pages;
 use pages::page_of;
-use pages::page_words;
 use pages::rights;
+use pages::threes_for;
 ghost use mathlib.Core.Path.{_≡_};
 ghost use mathlib.Core.Bool.{cond, _&&_};
-ghost use Prim.Native.Nat.{_+_, _-_, _*_, _<_};
+ghost use Prim.Native.Nat.{_+_, _*_, _<_};
 ghost use lib.Dec.{leb, eqb};
 ghost use Rattle.memory.specs.Geometry.{pageOf, threesFor, flatPages};
 ghost use Rattle.memory.specs.Entry;
 ghost use Rattle.memory.specs.Entry.{allRights};
 ghost use Rattle.memory.specs.Format.{rootDescriptorWord, rootDirectoryWord, rootListWord};
 ghost use Rattle.pages.specs.Width.{Width};
-
-// The difference, or 0 where there is none.
-fn minus(x: u32, y: u32) -> u32
-    ensures { λ r. ⌜ r ≡ x - y ⌝ }
-{
-    if x < y { 0 } else { x - y }
-}
-
-// T: "the smallest number with 67T ≥ N−5". It is worked out in 64 bits, since N may be any number.
-pub fn threes_for(b: u32, n: u32) -> u32
-    requires { ⌜ Width b ⌝ }
-    ensures { λ r. ⌜ (r ≡ threesFor b n) × (r < 67108864) ⌝ }
-{
-    let w = page_words(b) as u64;
-    (((minus(n, 5) as u64) + (w + 2)) / (w + 3)) as u32
-}
-
-// F: "N−6−3T"
-pub fn flat_pages(b: u32, n: u32) -> u32
-    requires { ⌜ Width b ⌝ }
-    ensures { λ r. ⌜ r ≡ flatPages b n ⌝ }
-{
-    minus(minus(n, 6), 3 * threes_for(b, n))
-}
 
 // "The root's virtual addresses in descriptor and list are 0, its parent 0."
 pub fn root_descriptor_word(b: u32, i: u32) -> u32
@@ -53,25 +30,24 @@ pub fn root_descriptor_word(b: u32, i: u32) -> u32
     address(b, PhysicalPage(i / 2 + 1))
 }
 
-// "a table's physical address + 1": k is 0 for the directory, 1 and 2 for the shadows.
-pub fn root_directory_word(b: u32, n: u32, k: u32, i: u32) -> u32
+// "a table's physical address + 1": k is 0 for the directory, 1 and 2 for the shadows; t is the number of threes.
+pub fn root_directory_word(b: u32, n: u32, t: u32, k: u32, i: u32) -> u32
     requires { ⌜ Width b ⌝ }
-    requires small { ⌜ (k < 3) × (i < 1024) ⌝ }
+    requires sizes { ⌜ (t ≡ threesFor b n) × (k < 3) × (i < 1024) ⌝ }
     ensures { λ r. ⌜ r ≡ rootDirectoryWord b n k i ⌝ }
 {
-    if i < threes_for(b, n) {
+    if i < t {
         return address(b, PhysicalPage(6 + 3 * i + k)) + 1;
     }
     0
 }
 
 // "word 0 first free word index, 1+6n with n threes; then pairs (virtual in parent, physical)"
-pub fn root_list_word(b: u32, n: u32, i: u32) -> u32
+pub fn root_list_word(b: u32, n: u32, t: u32, i: u32) -> u32
     requires { ⌜ Width b ⌝ }
-    requires small { ⌜ i < 1024 ⌝ }
+    requires sizes { ⌜ (t ≡ threesFor b n) × (t < 67108864) × (i < 1024) ⌝ }
     ensures { λ r. ⌜ r ≡ rootListWord b n i ⌝ }
 {
-    let t = threes_for(b, n);
     if i == 0 {
         return 1 + 6 * t;
     }

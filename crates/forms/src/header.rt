@@ -1,14 +1,13 @@
 // "Header and length as above".
 use crate::addresses::is_address;
 use crate::addresses::physical_address;
-use crate::formatted::threes_for;
-use crate::questions::Question;
-use crate::questions::each_word;
+use crate::words::zero_from;
 use pages::PhysicalPage;
 use pages::index;
 use pages::page_bytes;
 use pages::pages;
 use pages::read_word;
+use pages::threes_for;
 ghost use mathlib.Core.Path.{_≡_};
 ghost use mathlib.Core.Bool.{_&&_};
 ghost use Prim.Native.Nat.{_+_, _*_};
@@ -80,5 +79,5 @@ pub fn header_test(b: u32, m: &[u32]) -> bool
     if !offsets_test(b, m) {
         return false;
     }
-    each_word(b, m, Question::Zero(PhysicalPage(0), 5))
+    zero_from(b, m, PhysicalPage(0), 5)
 }

@@ -3,13 +3,15 @@ pub mod addresses;
 pub mod children;
 pub mod formatted;
 pub mod header;
+pub mod indices;
+pub mod own;
 pub mod pairs;
 pub mod partitions;
-pub mod questions;
 pub mod root;
 pub mod roots;
 pub mod tables;
 pub mod threes;
+pub mod words;
 
 pub use addresses::virtual_address;
 pub use children::child_forms;

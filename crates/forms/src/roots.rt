@@ -1,12 +1,10 @@
-// The words of a partition's directory, shadows and list.
+// The words of a partition's directory and list.
 use pages::PhysicalPage;
 use pages::directory;
 use pages::index;
 use pages::list;
 use pages::read;
 use pages::read_word;
-use pages::shadow1;
-use pages::shadow2;
 ghost use mathlib.Core.Path.{_≡_};
 ghost use Prim.Native.Nat.{_<_};
 ghost use Rattle.memory.specs.Words.{word};
@@ -18,20 +16,6 @@ pub fn directory_word(b: u32, m: &[u32], d: PhysicalPage, i: u32) -> u32
     ensures { λ r. ⌜ r ≡ word b (now (m .entry)) (Partition.directory b (now (m .entry)) (d .0)) i ⌝ }
 {
     read_word(b, m, directory(b, m, d), i)
-}
-
-pub fn shadow1_word(b: u32, m: &[u32], d: PhysicalPage, i: u32) -> u32
-    requires { ⌜ Width b ⌝ }
-    ensures { λ r. ⌜ r ≡ word b (now (m .entry)) (Partition.shadow1 b (now (m .entry)) (d .0)) i ⌝ }
-{
-    read_word(b, m, shadow1(b, m, d), i)
-}
-
-pub fn shadow2_word(b: u32, m: &[u32], d: PhysicalPage, i: u32) -> u32
-    requires { ⌜ Width b ⌝ }
-    ensures { λ r. ⌜ r ≡ word b (now (m .entry)) (Partition.shadow2 b (now (m .entry)) (d .0)) i ⌝ }
-{
-    read_word(b, m, shadow2(b, m, d), i)
 }
 
 // Its index is worked out in 64 bits, since a list's first word may be any number.

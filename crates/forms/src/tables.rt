@@ -1,16 +1,13 @@
 // "the words have the forms above": the words of a directory and of the tables.
 use crate::addresses::in_memory;
-use crate::roots::directory_word;
-use crate::roots::shadow1_word;
-use crate::roots::shadow2_word;
-use pages::PhysicalPage;
 use pages::accessible;
 use pages::entry_of;
 use pages::frame;
 use pages::rights;
 ghost use mathlib.Core.Path.{_≡_};
-ghost use Rattle.soundness.specs.Test.{tableLink, directoryTest};
+ghost use Rattle.soundness.specs.Test.{tableLink};
 ghost use Rattle.judging.specs.Quick.{entryTest};
+ghost use Rattle.forms.specs.Asked.{links};
 ghost use Rattle.pages.specs.Width.{Width};
 
 // "0 or a table's physical address + 1"
@@ -27,23 +24,11 @@ pub fn table_link(b: u32, m: &[u32], w: u32) -> bool
     in_memory(b, m, w)
 }
 
-// "All three have tables at the same i."
-pub fn directory_test(b: u32, m: &[u32], d: PhysicalPage, i: u32) -> bool
+// "All three have tables at the same i": w, x and y are the words of directory and shadows.
+pub fn three_links(b: u32, m: &[u32], w: u32, x: u32, y: u32) -> bool
     requires { ⌜ Width b ⌝ }
-    ensures { λ r. ⌜ r ≡ directoryTest b (now (m .entry)) (d .0) i ⌝ }
+    ensures { λ r. ⌜ r ≡ links b (now (m .entry)) w x y ⌝ }
 {
-    let w = directory_word(b, m, d, i);
-    let x = shadow1_word(b, m, d, i);
-    let y = shadow2_word(b, m, d, i);
-    if !table_link(b, m, w) {
-        return false;
-    }
-    if !table_link(b, m, x) {
-        return false;
-    }
-    if !table_link(b, m, y) {
-        return false;
-    }
     if w == 0 {
         if x != 0 {
             return false;
@@ -53,7 +38,16 @@ pub fn directory_test(b: u32, m: &[u32], d: PhysicalPage, i: u32) -> bool
     if x == 0 {
         return false;
     }
-    y != 0
+    if y == 0 {
+        return false;
+    }
+    if !table_link(b, m, w) {
+        return false;
+    }
+    if !table_link(b, m, x) {
+        return false;
+    }
+    table_link(b, m, y)
 }
 
 // "physical address + 1 + 2·accessible + 4·rights"

@@ -1,61 +1,63 @@
 // "Each listed three stands at one directory index, and each index that has tables is listed once."
-use crate::roots::directory_word;
-use crate::roots::list_word;
-use crate::roots::shadow1_word;
-use crate::roots::shadow2_word;
-use pages::PhysicalPage;
+use crate::own::Own;
+use crate::own::directory_at;
+use crate::own::list_at;
+use crate::own::shadow1_at;
+use crate::own::shadow2_at;
 use pages::page_words;
-use pages::threes;
 ghost use mathlib.Core.Path.{_≡_};
-ghost use mathlib.Core.Bool.{cond, _||_};
-ghost use Prim.Native.Nat.{_+_};
+ghost use mathlib.Core.Bool.{cond, _&&_};
+ghost use Prim.Native.Nat.{_+_, _*_, _<_};
 ghost use lib.Dec.{eqb};
-ghost use Rattle.walk.specs.Finite.{from, once};
+ghost use lib.ListN.{length};
+ghost use Rattle.walk.specs.Finite.{from, all, keep, once};
 ghost use Rattle.memory.specs.Geometry.{pageWords};
 ghost use Rattle.memory.specs.Words.{word};
 ghost use Rattle.memory.specs.Partition;
-ghost use Rattle.memory.specs.Partition.{directory};
 ghost use Rattle.soundness.specs.Test;
-ghost use Rattle.forms.specs.Stands.{standsAt};
+ghost use Rattle.forms.specs.Asked.{alike};
+ghost use Rattle.forms.specs.Named.{Named, Listed};
 ghost use Rattle.pages.specs.Width.{Width};
 
-// w is a + 1. The sum is worked out in 64 bits.
-fn follows(w: u32, a: u32) -> bool
-    ensures { λ r. ⌜ r ≡ eqb w (a + 1) ⌝ }
-{
-    (w as u64) == (a as u64) + 1
-}
+// The words of a directory and its shadows at one index.
+pub struct Three(pub u32, pub u32, pub u32);
 
-// Three j of d's list stands at index i: page table, shadow 1 table, shadow 2 table.
-pub fn stands(b: u32, m: &[u32], d: PhysicalPage, j: u32, i: u32) -> bool
+// The words with which three j of the list stands: page table, shadow 1 table, shadow 2 table, and 1 more.
+pub fn three_of(b: u32, m: &[u32], o: Own, j: u32) -> Three
     requires { ⌜ Width b ⌝ }
-    ensures { λ r. ⌜ r ≡ Test.stands b (now (m .entry)) (d .0) j i ⌝ }
+    requires listed { ⌜ Listed b (now m) o ⌝ }
+    requires there { ⌜ j < Partition.threes b (now m) (o .descriptor .0) ⌝ }
+    ensures { λ r.
+        ⌜
+        (r .0 ≡ word b (now (m .entry)) (Partition.list b (now (m .entry)) (o .descriptor .0)) (2 + 6 * j) + 1)
+        × (r .1 ≡ word b (now (m .entry)) (Partition.list b (now (m .entry)) (o .descriptor .0)) (4 + 6 * j) + 1)
+        × (r .2 ≡ word b (now (m .entry)) (Partition.list b (now (m .entry)) (o .descriptor .0)) (6 + 6 * j) + 1)
+        ⌝ }
 {
     let p = 6 * (j as usize);
-    if !follows(directory_word(b, m, d, i), list_word(b, m, d, 2 + p)) {
-        return false;
-    }
-    if !follows(shadow1_word(b, m, d, i), list_word(b, m, d, 4 + p)) {
-        return false;
-    }
-    follows(shadow2_word(b, m, d, i), list_word(b, m, d, 6 + p))
+    let x = list_at(b, m, o, 2 + p);
+    let y = list_at(b, m, o, 4 + p);
+    let z = list_at(b, m, o, 6 + p);
+    Three(x + 1, y + 1, z + 1)
 }
 
-// What stands once: a three of d's list, at one of the indices; an index of d, by one of the threes.
-pub enum Held {
-    Three(PhysicalPage, u32),
-    Index(PhysicalPage, u32),
-}
-
-// It stands at index k, or by three k.
-pub fn stands_at(b: u32, m: &[u32], h: Held, k: u32) -> bool
+// The words at index i are t.
+fn are_at(b: u32, m: &[u32], o: Own, i: u32, t: Three) -> bool
     requires { ⌜ Width b ⌝ }
-    ensures { λ r. ⌜ r ≡ standsAt h b (now (m .entry)) k ⌝ }
+    requires named { ⌜ Named b (now m) o ⌝ }
+    requires place { ⌜ i < pageWords b ⌝ }
+    ensures { λ r. ⌜ r ≡ alike b (now (m .entry)) (o .descriptor .0) (t .0) (t .1) (t .2) i ⌝ }
 {
-    match h {
-        Held::Three(d, j) => stands(b, m, d, j, k),
-        Held::Index(d, i) => stands(b, m, d, k, i),
+    let w = directory_at(b, m, o, i);
+    let x = shadow1_at(b, m, o, i);
+    let y = shadow2_at(b, m, o, i);
+    if w != t.0 {
+        return false;
     }
+    if x != t.1 {
+        return false;
+    }
+    y == t.2
 }
 
 fn bit(x: bool) -> u32
@@ -64,40 +66,57 @@ fn bit(x: bool) -> u32
     if x { 1 } else { 0 }
 }
 
-// It stands once among the first n.
-pub fn stands_once(b: u32, m: &[u32], h: Held, n: u32) -> bool
+// At how many indices the words are t.
+fn standing(b: u32, m: &[u32], o: Own, t: Three) -> u32
     requires { ⌜ Width b ⌝ }
-    ensures { λ r. ⌜ r ≡ once (standsAt h b (now (m .entry))) (from n 0) ⌝ }
+    requires named { ⌜ Named b (now m) o ⌝ }
+    ensures { λ r. ⌜ r ≡ length (keep (alike b (now (m .entry)) (o .descriptor .0) (t .0) (t .1) (t .2)) (from (pageWords b) 0)) ⌝ }
 {
+    let n = page_words(b);
     let mut found: u32 = 0;
-    let mut k: u32 = 0;
-    while k < n {
-        found += bit(stands_at(b, m, h, k));
-        k += 1;
+    let mut i: u32 = 0;
+    while i < n {
+        found += bit(are_at(b, m, o, i, t));
+        i += 1;
     }
-    found == 1
+    found
 }
 
-// Three j of d's list stands at one directory index.
-pub fn three_once(b: u32, m: &[u32], d: PhysicalPage, j: u32) -> bool
+// Each three of the list stands at one index.
+pub fn threes_once(b: u32, m: &[u32], o: Own) -> bool
     requires { ⌜ Width b ⌝ }
-    ensures { λ r. ⌜ r ≡ once (Test.stands b (now (m .entry)) (d .0) j) (from (pageWords b) 0) ⌝ }
-{
-    stands_once(b, m, Held::Three(d, j), page_words(b))
-}
-
-// Index i of d has no tables, or is listed once.
-pub fn index_once(b: u32, m: &[u32], d: PhysicalPage, i: u32) -> bool
-    requires { ⌜ Width b ⌝ }
+    requires listed { ⌜ Listed b (now m) o ⌝ }
     ensures { λ r.
         ⌜
         r
-        ≡ (eqb (word b (now (m .entry)) (directory b (now (m .entry)) (d .0)) i) 0
-        || once (λ j. Test.stands b (now (m .entry)) (d .0) j i) (from (Partition.threes b (now (m .entry)) (d .0)) 0))
+        ≡ all (λ j. once (Test.stands b (now (m .entry)) (o .descriptor .0) j) (from (pageWords b) 0)) (from (Partition.threes b (now (m .entry)) (o .descriptor .0)) 0)
         ⌝ }
 {
-    if directory_word(b, m, d, i) == 0 {
-        return true;
+    let n = o.threes;
+    let mut j: u32 = 0;
+    while j < n {
+        if standing(b, m, o, three_of(b, m, o, j)) != 1 {
+            return false;
+        }
+        j += 1;
     }
-    stands_once(b, m, Held::Index(d, i), threes(b, m, d))
+    true
+}
+
+// Index i is listed once.
+pub fn index_once(b: u32, m: &[u32], o: Own, i: u32) -> bool
+    requires { ⌜ Width b ⌝ }
+    requires listed { ⌜ Listed b (now m) o ⌝ }
+    requires place { ⌜ i < pageWords b ⌝ }
+    ensures { λ r.
+        ⌜ r ≡ once (λ j. Test.stands b (now (m .entry)) (o .descriptor .0) j i) (from (Partition.threes b (now (m .entry)) (o .descriptor .0)) 0) ⌝ }
+{
+    let n = o.threes;
+    let mut found: u32 = 0;
+    let mut j: u32 = 0;
+    while j < n {
+        found += bit(are_at(b, m, o, i, three_of(b, m, o, j)));
+        j += 1;
+    }
+    found == 1
 }

@@ -2,10 +2,10 @@
 use crate::bytes::MAGIC;
 use crate::bytes::little_endian;
 use crate::bytes::put_bytes;
-use crate::flat::flat_pages;
 use answers::Answer;
 use pages::PhysicalPage;
 use pages::address;
+use pages::flat_pages;
 use pages::page_bytes;
 ghost use mathlib.Core.Path.{_≡_};
 ghost use mathlib.Core.Bool.{true};

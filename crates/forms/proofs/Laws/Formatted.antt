@@ -1,21 +1,13 @@
--- The sizes and the root's words that format leaves, in the code's terms. Assumes nothing.
-use mathlib.Core.Path.{_≡_, refl}
+-- The root's words that format leaves, in the code's terms. Assumes nothing.
+use mathlib.Core.Path.{_≡_, refl, _∙_}
 use mathlib.Core.Bool.{cond}
 use Prim.Native.Nat.{ℕ, zero, suc, _+_, _-_, _*_, _/_, _%_, _≤_, _<_}
 use native.Mathlib.Omega.{arith}
-use native.Mathlib.Nat.{div-lt-iff-lt-mul, mul-le-mul}
 use lib.Dec.{leb, eqb}
-use borrow.Author.Tests.{le-leb}
-use Rattle.memory.specs.Geometry.{pageWords, pageBytes, address, threesFor}
-use Rattle.memory.specs.Format.{rootDescriptorWord}
-use Rattle.memory.proofs.Widths.{words-least, words-most}
-
-pub threes-lt : (b n : ℕ) → 6 ≤ b → n < 4294967296 → threesFor b n < 67108864
-threes-lt b n h l = div-lt-iff-lt-mul {k = pageWords b + 3} (omega arith) .1 (omega (arith, words-least b h))
-
--- the address of a page that is no more than the most
-pub address-small : (b p : ℕ) → b ≤ 10 → p ≤ 4096 → address b p ≤ 16777216
-address-small b p h l = mul-le-mul {m₁ = pageBytes b} {n₂ = 4096} {m₂ = 4096} l (omega (arith, words-most b h))
+use borrow.Author.Tests.{le-leb, lt-leb, le-ltb, ne-eqb}
+use Rattle.memory.specs.Geometry.{address, threesFor}
+use Rattle.memory.specs.Format.{rootDescriptorWord, rootDirectoryWord, rootListWord}
+use Rattle.forms.proofs.Laws.Tests.{and-false}
 
 -- the odd words below 10 of the root's descriptor are the five addresses
 pub descriptor-words : (b i : ℕ) → rootDescriptorWord b i ≡ cond (leb 10 i) 0 (cond (eqb (i % 2) 0) 0 (address b (i / 2 + 1)))
@@ -32,3 +24,13 @@ descriptor-words b (suc (suc (suc (suc (suc (suc (suc (suc (suc zero))))))))) = 
 descriptor-words b (suc (suc (suc (suc (suc (suc (suc (suc (suc (suc zero)))))))))) = refl
 descriptor-words b (suc (suc (suc (suc (suc (suc (suc (suc (suc (suc (suc zero))))))))))) = refl
 descriptor-words b (suc (suc (suc (suc (suc (suc (suc (suc (suc (suc (suc (suc i)))))))))))) = rw (le-leb 10 (suc (suc (suc (suc (suc (suc (suc (suc (suc (suc (suc (suc i)))))))))))) (omega arith)) refl
+
+-- past the first words there is nothing but 0
+pub descriptor-zeros : (b i : ℕ) → 10 ≤ i → rootDescriptorWord b i ≡ 0
+descriptor-zeros b i h = descriptor-words b i ∙ rw (le-leb 10 i h) refl
+
+pub directory-zeros : (b n k i : ℕ) → threesFor b n ≤ i → rootDirectoryWord b n k i ≡ 0
+directory-zeros b n k i h = rw (le-ltb i (threesFor b n) h) refl
+
+pub list-zeros : (b n i : ℕ) → 1 + 6 * threesFor b n ≤ i → rootListWord b n i ≡ 0
+list-zeros b n i h = rw (ne-eqb i 0 (λ e. omega arith), lt-leb i (6 * threesFor b n) (omega arith), and-false (eqb (i % 2) 0)) refl

@@ -1,6 +1,6 @@
 -- What a test that the code made tells of the test that it stands for: f is that test, x the code's, u and v its numbers. Assumes nothing.
 use mathlib.Core.Path.{_≡_, refl, sym, ap, _∙_}
-use mathlib.Core.Bool.{Bool, true, false, not, _&&_, _||_}
+use mathlib.Core.Bool.{Bool, true, false, not, _&&_, _||_, false≢true}
 use mathlib.Core.Logic.{_≢_}
 use Prim.Native.Nat.{ℕ, _≤_, _<_}
 use lib.Dec.{leb, ltb, eqb}
@@ -36,3 +36,28 @@ and-false false = refl
 pub and-true : (f : Bool) → f && true ≡ f
 and-true true = refl
 and-true false = refl
+
+pub and-assoc : (x y z : Bool) → x && (y && z) ≡ x && y && z
+and-assoc true y z = refl
+and-assoc false y z = refl
+
+pub and-swap : (x y u v : Bool) → x && y && (u && v) ≡ x && u && (y && v)
+and-swap false y u v = refl
+and-swap true false true v = refl
+and-swap true false false v = refl
+and-swap true true u v = refl
+
+-- the parts of a test that holds
+pub and-fst : (x y : Bool) → x && y ≡ true → x ≡ true
+and-fst true y e = refl
+and-fst false y e = e
+
+pub and-snd : (x y : Bool) → x && y ≡ true → y ≡ true
+and-snd true y e = e
+and-snd false y e = absurd (false≢true e)
+
+-- two tests that hold together
+pub same-test : (x y : Bool) → (x ≡ true → y ≡ true) → (y ≡ true → x ≡ true) → x ≡ y
+same-test true y f g = sym (f refl)
+same-test false true f g = g refl
+same-test false false f g = refl

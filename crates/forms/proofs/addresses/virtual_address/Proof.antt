@@ -1,40 +1,31 @@
-use mathlib.Core.Path.{refl, sym}
+-- `forms::addresses::virtual_address` meets its contract. Assumes nothing.
+use mathlib.Core.Path.{refl}
+use borrow.Author.Needs.{needs}
+use Rattle.memory.proofs.Widths.{end-shl}
 use Rattle.soundness.specs.Test.{virtual}
 use Rattle.forms.proofs.Laws.Tests.{unequal, equal, same-ltb}
-use Rattle.memory.proofs.Widths.{end-shl}
-use borrow.Author.Needs.{needs}
 use Rattle.forms.proofs.addresses.virtual_address.Statement.{statement}
 use Rattle.forms.proofs.addresses.virtual_address.Tie as tie
-use Rattle.forms.proofs.addresses.virtual_address.Reads as reads
-use Rattle.forms.proofs.addresses.virtual_address.Lts as lts
-use Rattle.pages.proofs.frame.Reads as frame-reads
 
--- src/addresses.rt:26:8
 frame-requires : tie.Need-frame-requires
 frame-requires c κs = search needs
 
--- src/addresses.rt:27:9
 returns : tie.Need-returns
 unfolding virtual
 returns c = rw (unequal (c .before .frame .ensures .0) refl (c .if1 .taken))
 
--- src/addresses.rt:29:28
 mul-result : tie.Need-mul-result
 mul-result c = search needs
 
--- src/addresses.rt:29:28
 add-result : tie.Need-add-result
 add-result c = search needs
 
--- src/addresses.rt:29:28
 cast-result : tie.Need-cast-result
 cast-result c = search needs
 
--- src/addresses.rt:29:19
 shl-result : tie.Need-shl-result
 shl-result c = search needs
 
--- src/addresses.rt:22:1
 returns-2 : tie.Need-returns-2
 unfolding virtual
 returns-2 c = rw (equal (c .before .frame .ensures .0) refl (c .if1 .left)) (same-ltb refl (end-shl (c .before .before .args .b) (c .before .before .pre .1)))

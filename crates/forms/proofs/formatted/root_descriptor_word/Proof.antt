@@ -1,32 +1,25 @@
+-- `forms::formatted::root_descriptor_word` meets its contract. Assumes nothing.
 use Prim.Native.Nat.{_+_, _/_, _%_}
-use borrow.Author.Tests.{eq-eqb, ne-eqb, le-leb, lt-leb}
-use Rattle.forms.proofs.Laws.Formatted.{address-small, descriptor-words}
-use mathlib.Core.Path.{_∙_}
 use native.Mathlib.Omega.{arith}
 use borrow.Author.Needs.{needs}
+use borrow.Author.Tests.{eq-eqb, ne-eqb, le-leb, lt-leb}
+use Rattle.pages.proofs.Fits.{address-small}
+use Rattle.forms.proofs.Laws.Formatted.{descriptor-words}
 use Rattle.forms.proofs.formatted.root_descriptor_word.Statement.{statement}
 use Rattle.forms.proofs.formatted.root_descriptor_word.Tie as tie
-use Rattle.forms.proofs.formatted.root_descriptor_word.Reads as reads
-use Rattle.forms.proofs.formatted.root_descriptor_word.Lts as lts
-use Rattle.pages.proofs.address.Reads as address-reads
 
--- src/formatted.rt:48:9
 returns : tie.Need-returns
 returns c = rw (descriptor-words (c .before .args .b) (c .before .args .i), le-leb 10 (c .before .args .i) (c .if1 .taken))
 
--- src/formatted.rt:51:9
 returns-2 : tie.Need-returns-2
 returns-2 c = rw (descriptor-words (c .before .before .args .b) (c .before .before .args .i), lt-leb 10 (c .before .before .args .i) (c .before .if1 .left), eq-eqb (c .before .before .args .i % 2) 0 (c .if2 .taken))
 
--- src/formatted.rt:53:29
 add-t5 : tie.Need-add-t5
 add-t5 c = search needs
 
--- src/formatted.rt:53:5
 address-requires : tie.Need-address-requires
 address-requires c κs = (c .before .before .pre, omega (arith, address-small (c .before .before .args .b) (c .before .before .args .i / 2 + 1) (c .before .before .pre .1) (omega arith)))
 
--- src/formatted.rt:43:1
 returns-3 : tie.Need-returns-3
 returns-3 c = rw (descriptor-words (c .before .before .before .args .b) (c .before .before .before .args .i), lt-leb 10 (c .before .before .before .args .i) (c .before .before .if1 .left), ne-eqb (c .before .before .before .args .i % 2) 0 (c .before .if2 .left)) (c .address .ensures)
 

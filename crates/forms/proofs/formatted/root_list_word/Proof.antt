@@ -1,62 +1,44 @@
-use Rattle.memory.specs.Geometry.{threesFor}
-use Prim.Native.Nat.{ℕ, _+_, _*_, _/_, _%_}
-use mathlib.Core.Path.{ap}
+-- `forms::formatted::root_list_word` meets its contract. Assumes nothing.
+use Prim.Native.Nat.{_+_, _*_, _/_, _%_}
 use native.Mathlib.Omega.{arith}
-use borrow.Author.Tests.{eq-eqb, ne-eqb, le-leb, lt-leb}
-use Rattle.forms.proofs.Laws.Formatted.{address-small}
 use borrow.Author.Needs.{needs}
+use borrow.Author.Tests.{eq-eqb, ne-eqb, le-leb, lt-leb}
+use Rattle.memory.specs.Geometry.{threesFor}
+use Rattle.pages.proofs.Fits.{address-small}
 use Rattle.forms.proofs.formatted.root_list_word.Statement.{statement}
 use Rattle.forms.proofs.formatted.root_list_word.Tie as tie
-use Rattle.forms.proofs.formatted.root_list_word.Reads as reads
-use Rattle.forms.proofs.formatted.root_list_word.Lts as lts
-use Rattle.forms.proofs.formatted.threes_for.Reads as threes-for-reads
-use Rattle.pages.proofs.address.Reads as address-reads
 
--- src/formatted.rt:74:9
-threes-for-requires : tie.Need-threes-for-requires
-threes-for-requires c κs = search needs
-
--- src/formatted.rt:76:20
 mul-result : tie.Need-mul-result
 mul-result c = search needs
 
--- src/formatted.rt:76:16
 add-result : tie.Need-add-result
 add-result c = search needs
 
--- src/formatted.rt:76:9
 returns : tie.Need-returns
-returns c = rw (eq-eqb (c .before .before .args .i) 0 (c .if1 .taken)) (omega (arith, c .before .threes-for .ensures))
+returns c = rw (eq-eqb (c .before .args .i) 0 (c .if1 .taken)) (omega arith)
 
--- src/formatted.rt:79:9
 returns-2 : tie.Need-returns-2
-returns-2 c = rw (ne-eqb (c .before .before .before .args .i) 0 (c .before .if1 .left), ne-eqb (c .before .before .before .args .i % 2) 0 (c .if2 .taken))
+returns-2 c = rw (ne-eqb (c .before .before .args .i) 0 (c .before .if1 .left), ne-eqb (c .before .before .args .i % 2) 0 (c .if2 .taken))
 
--- src/formatted.rt:81:8
 mul-if3 : tie.Need-mul-if3
 mul-if3 c = search needs
 
--- src/formatted.rt:82:9
 returns-3 : tie.Need-returns-3
-returns-3 c = rw (ne-eqb (c .before .before .before .before .args .i) 0 (c .before .before .if1 .left), eq-eqb (c .before .before .before .before .args .i % 2) 0 (c .before .if2 .left), lt-leb (c .before .before .before .before .args .i) (6 * threesFor (c .before .before .before .before .args .b) (c .before .before .before .before .args .n)) (omega arith))
+returns-3 c = rw (ne-eqb (c .before .before .before .args .i) 0 (c .before .before .if1 .left), eq-eqb (c .before .before .before .args .i % 2) 0 (c .before .if2 .left), lt-leb (c .before .before .before .args .i) (6 * threesFor (c .before .before .before .args .b) (c .before .before .before .args .n)) (omega arith))
 
--- src/formatted.rt:84:29
 add-t8 : tie.Need-add-t8
 add-t8 c = search needs
 
--- src/formatted.rt:84:5
 address-requires : tie.Need-address-requires
-address-requires c κs = (c .before .before .before .before .pre .0, omega (arith, address-small (c .before .before .before .before .args .b) (5 + c .before .before .before .before .args .i / 2) (c .before .before .before .before .pre .0 .1) (omega arith)))
+address-requires c κs = (c .before .before .before .pre .0, omega (arith, address-small (c .before .before .before .args .b) (5 + c .before .before .before .args .i / 2) (c .before .before .before .pre .0 .1) (omega arith)))
 
--- src/formatted.rt:69:1
 returns-4 : tie.Need-returns-4
-returns-4 c = rw (ne-eqb (c .before .before .before .before .before .args .i) 0 (c .before .before .before .if1 .left), eq-eqb (c .before .before .before .before .before .args .i % 2) 0 (c .before .before .if2 .left), le-leb (c .before .before .before .before .before .args .i) (6 * threesFor (c .before .before .before .before .before .args .b) (c .before .before .before .before .before .args .n)) (omega arith)) (c .address .ensures)
+returns-4 c = rw (ne-eqb (c .before .before .before .before .args .i) 0 (c .before .before .before .if1 .left), eq-eqb (c .before .before .before .before .args .i % 2) 0 (c .before .before .if2 .left), le-leb (c .before .before .before .before .args .i) (6 * threesFor (c .before .before .before .before .args .b) (c .before .before .before .before .args .n)) (omega arith)) (c .address .ensures)
 
 pub root-list-word-spec : {M : Type 1} → statement M
 root-list-word-spec =
     tie.close
     (tie.spec
-    threes-for-requires
     mul-result
     add-result
     returns

@@ -1,77 +1,56 @@
-use Prim.Native.Nat.{ℕ, _+_, _*_}
-use mathlib.Core.Path.{refl, ap, _∙_}
+-- `forms::header::offsets_test` meets its contract. Assumes nothing.
+use mathlib.Core.Path.{ap, _∙_}
+use Prim.Native.Nat.{ℕ}
 use lib.Dec.{eqb}
-use Rattle.soundness.specs.Test.{physical}
-use Rattle.memory.specs.Geometry.{address, threesFor}
-use Rattle.forms.proofs.Laws.Tests.{yes, no, unequal, equal}
 use borrow.Author.Needs.{needs}
+use Rattle.memory.specs.Geometry.{address, threesFor}
+use Rattle.soundness.specs.Test.{physical}
+use Rattle.forms.proofs.Laws.Tests.{yes, no, unequal, equal}
 use Rattle.forms.proofs.header.offsets_test.Statement.{statement}
 use Rattle.forms.proofs.header.offsets_test.Tie as tie
-use Rattle.forms.proofs.header.offsets_test.Reads as reads
-use Rattle.forms.proofs.header.offsets_test.Lts as lts
-use Rattle.forms.proofs.addresses.is_address.Reads as is-address-reads
-use Rattle.forms.proofs.addresses.physical_address.Reads as physical-address-reads
-use Rattle.forms.proofs.formatted.threes_for.Reads as threes-for-reads
-use Rattle.pages.proofs.pages.Reads as pages-reads
-use Rattle.pages.proofs.read_word.Reads as read-word-reads
 
--- src/header.rt:60:27
 pages-requires : tie.Need-pages-requires
 pages-requires c κs = search needs
 
--- src/header.rt:60:9
 threes-for-requires : tie.Need-threes-for-requires
 threes-for-requires c κs = search needs
 
--- src/header.rt:61:8
 read-word-requires : tie.Need-read-word-requires
 read-word-requires c κs = search needs
 
--- src/header.rt:62:9
 returns : tie.Need-returns
 returns c = rw (unequal (c .before .read-word .ensures) (c .before .before .threes-for .ensures .0 ∙ ap (threesFor (c .before .before .before .before .before .args .b)) (c .before .before .before .pages .ensures)) (c .if1 .taken))
 
--- src/header.rt:64:23
 read-word-requires-2 : tie.Need-read-word-requires-2
 read-word-requires-2 c κs = search needs
 
--- src/header.rt:64:9
 is-address-requires : tie.Need-is-address-requires
 is-address-requires c κs = search needs
 
--- src/header.rt:65:9
 returns-2 : tie.Need-returns-2
 returns-2 c = rw (equal (c .before .before .before .before .read-word .ensures) (c .before .before .before .before .before .threes-for .ensures .0 ∙ ap (threesFor (c .before .before .before .before .before .before .before .before .args .b)) (c .before .before .before .before .before .before .pages .ensures)) (c .before .before .before .if1 .left), no (c .before .is-address .ensures ∙ ap (λ (w : ℕ). eqb w (address (c .before .before .before .before .before .before .before .before .args .b) 1)) (c .before .before .read-word2 .ensures)) (c .if2 .taken))
 
--- src/header.rt:67:23
 read-word-requires-3 : tie.Need-read-word-requires-3
 read-word-requires-3 c κs = search needs
 
--- src/header.rt:67:77
 mul-t9 : tie.Need-mul-t9
 mul-t9 c = search needs
 
--- src/header.rt:67:73
 add-t10 : tie.Need-add-t10
 add-t10 c = search needs
 
--- src/header.rt:67:9
 is-address-requires-2 : tie.Need-is-address-requires-2
 is-address-requires-2 c κs = search needs
 
--- src/header.rt:68:9
 returns-3 : tie.Need-returns-3
 returns-3 c = rw (equal (c .before .before .before .before .before .before .before .read-word .ensures) (c .before .before .before .before .before .before .before .before .threes-for .ensures .0 ∙ ap (threesFor (c .before .before .before .before .before .before .before .before .before .before .before .args .b)) (c .before .before .before .before .before .before .before .before .before .pages .ensures)) (c .before .before .before .before .before .before .if1 .left), yes (c .before .before .before .before .is-address .ensures ∙ ap (λ (w : ℕ). eqb w (address (c .before .before .before .before .before .before .before .before .before .before .before .args .b) 1)) (c .before .before .before .before .before .read-word2 .ensures)) (c .before .before .before .if2 .left), no (rw (c .before .before .read-word3 .ensures, (c .before .before .before .before .before .before .before .before .threes-for .ensures .0 ∙ ap (threesFor (c .before .before .before .before .before .before .before .before .before .before .before .args .b)) (c .before .before .before .before .before .before .before .before .before .pages .ensures))) at (c .before .is-address2 .ensures)) (c .if3 .taken))
 
--- src/header.rt:70:28
 read-word-requires-4 : tie.Need-read-word-requires-4
 read-word-requires-4 c κs = search needs
 
--- src/header.rt:70:5
 physical-address-requires : tie.Need-physical-address-requires
 physical-address-requires c κs = search needs
 
--- src/header.rt:47:1
 returns-4 : tie.Need-returns-4
 returns-4 c = rw (equal (c .before .before .before .before .before .before .before .before .before .read-word .ensures) (c .before .before .before .before .before .before .before .before .before .before .threes-for .ensures .0 ∙ ap (threesFor (c .before .before .before .before .before .before .before .before .before .before .before .before .before .args .b)) (c .before .before .before .before .before .before .before .before .before .before .before .pages .ensures)) (c .before .before .before .before .before .before .before .before .if1 .left), yes (c .before .before .before .before .before .before .is-address .ensures ∙ ap (λ (w : ℕ). eqb w (address (c .before .before .before .before .before .before .before .before .before .before .before .before .before .args .b) 1)) (c .before .before .before .before .before .before .before .read-word2 .ensures)) (c .before .before .before .before .before .if2 .left), yes (rw (c .before .before .before .before .read-word3 .ensures, (c .before .before .before .before .before .before .before .before .before .before .threes-for .ensures .0 ∙ ap (threesFor (c .before .before .before .before .before .before .before .before .before .before .before .before .before .args .b)) (c .before .before .before .before .before .before .before .before .before .before .before .pages .ensures))) at (c .before .before .before .is-address2 .ensures)) (c .before .before .if3 .left)) (c .physical-address .ensures ∙ ap (physical (c .before .before .before .before .before .before .before .before .before .before .before .before .before .args .b) (c .before .before .before .before .before .before .before .before .before .before .before .before .before .args .m .now)) (c .before .read-word4 .ensures))
 

@@ -1,39 +1,29 @@
+-- `forms::header::size_test` meets its contract. Assumes nothing.
 use mathlib.Core.Path.{refl}
 use native.Mathlib.Omega.{arith}
-use Rattle.memory.specs.Partition.{pages}
-use borrow.Author.Tests.{le-leb, lt-leb}
-use Rattle.forms.proofs.Laws.Forms.{pages-long}
-use Rattle.forms.proofs.Laws.Tests.{unequal, equal, same-leb}
 use borrow.Author.Needs.{needs}
+use borrow.Author.Tests.{le-leb, lt-leb}
+use Rattle.memory.specs.Partition.{pages}
+use Rattle.forms.proofs.Laws.Indices.{pages-long}
+use Rattle.forms.proofs.Laws.Tests.{unequal, equal, same-leb}
 use Rattle.forms.proofs.header.size_test.Statement.{statement}
 use Rattle.forms.proofs.header.size_test.Tie as tie
-use Rattle.forms.proofs.header.size_test.Reads as reads
-use Rattle.forms.proofs.header.size_test.Lts as lts
-use Rattle.pages.proofs.pages.Reads as pages-reads
-use Rattle.pages.proofs.page_bytes.Reads as page-bytes-reads
-use Rattle.pages.proofs.index.Reads as index-reads
 
--- src/header.rt:36:9
 pages-requires : tie.Need-pages-requires
 pages-requires c κs = search needs
 
--- src/header.rt:37:19
 index-requires : tie.Need-index-requires
 index-requires c κs = search needs
 
--- src/header.rt:38:9
 returns : tie.Need-returns
 returns c = rw (unequal refl (pages-long (c .before .before .before .before .args .b) (c .before .index .ensures .0) (c .before .before .pages .ensures)) (c .if1 .taken))
 
--- src/header.rt:41:9
 returns-2 : tie.Need-returns-2
 returns-2 c = rw (equal refl (pages-long (c .before .before .before .before .before .args .b) (c .before .before .index .ensures .0) (c .before .before .before .pages .ensures)) (c .before .if1 .left), lt-leb 16 (pages (c .before .before .before .before .before .args .b) (c .before .before .before .before .before .args .m .now)) (omega arith))
 
--- src/header.rt:43:10
 page-bytes-requires : tie.Need-page-bytes-requires
 page-bytes-requires c κs = search needs
 
--- src/header.rt:24:1
 returns-3 : tie.Need-returns-3
 returns-3 c = rw (equal refl (pages-long (c .before .before .before .before .before .before .args .b) (c .before .before .before .index .ensures .0) (c .before .before .before .before .pages .ensures)) (c .before .before .if1 .left), le-leb 16 (pages (c .before .before .before .before .before .before .args .b) (c .before .before .before .before .before .before .args .m .now)) (omega arith)) (same-leb (c .before .before .before .before .pages .ensures) (c .page-bytes .ensures .0))
 

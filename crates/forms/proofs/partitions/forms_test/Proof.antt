@@ -1,43 +1,50 @@
-use Rattle.forms.proofs.Laws.Whole.{list-few}
-use Rattle.forms.proofs.Laws.Tests.{yes, no}
+-- `forms::partitions::forms_test` meets its contract. Assumes nothing.
+use mathlib.Core.Path.{ap, _∙_}
+use Prim.Native.Nat.{ℕ}
 use borrow.Author.Needs.{needs}
+use Rattle.walk.specs.Finite.{from, all, once}
+use Rattle.memory.specs.Geometry.{pageWords}
+use Rattle.memory.specs.Partition.{threes}
+use Rattle.soundness.specs.Test.{listTest, stands}
+use Rattle.forms.specs.Asked.{indexTest}
+use Rattle.forms.proofs.Laws.Tests.{yes, no}
+use Rattle.forms.proofs.Laws.Whole.{forms-as}
 use Rattle.forms.proofs.partitions.forms_test.Statement.{statement}
 use Rattle.forms.proofs.partitions.forms_test.Tie as tie
-use Rattle.forms.proofs.partitions.forms_test.Reads as reads
-use Rattle.forms.proofs.partitions.forms_test.Lts as lts
-use Rattle.forms.proofs.partitions.descriptor_test.Reads as descriptor-test-reads
-use Rattle.forms.proofs.partitions.list_test.Reads as list-test-reads
-use Rattle.forms.proofs.questions.each_word.Reads as each-word-reads
 
--- src/partitions.rt:92:9
 descriptor-test-requires : tie.Need-descriptor-test-requires
 descriptor-test-requires c κs = search needs
 
--- src/partitions.rt:93:9
 returns : tie.Need-returns
 returns c = rw (no (c .before .descriptor-test .ensures) (c .if1 .taken))
 
--- src/partitions.rt:95:9
-each-word-requires : tie.Need-each-word-requires
-each-word-requires c κs = search needs
+look-up-requires : tie.Need-look-up-requires
+look-up-requires c κs = search needs
 
--- src/partitions.rt:96:9
-returns-2 : tie.Need-returns-2
-returns-2 c = rw (yes (c .before .before .before .descriptor-test .ensures) (c .before .before .if1 .left), no (c .before .each-word .ensures) (c .if2 .taken))
-
--- src/partitions.rt:98:5
 list-test-requires : tie.Need-list-test-requires
 list-test-requires c κs = search needs
 
--- src/partitions.rt:80:1
-returns-3 : tie.Need-returns-3
-returns-3 c = rw (yes (c .before .before .before .before .before .descriptor-test .ensures) (c .before .before .before .before .if1 .left), yes (c .before .before .before .each-word .ensures) (c .before .before .if2 .left), no (c .before .list-test .ensures) (c .if3 .taken))
+returns-2 : tie.Need-returns-2
+returns-2 c = rw (forms-as (c .before .before .before .before .before .before .args .b) (c .before .before .before .before .before .before .args .m .now) (c .before .before .before .before .before .before .args .d .0), yes (c .before .before .before .before .descriptor-test .ensures) (c .before .before .before .if1 .left), no (c .before .list-test .ensures ∙ ap (listTest (c .before .before .before .before .before .before .args .b) (c .before .before .before .before .before .before .args .m .now)) (c .before .before .look-up .ensures .0)) (c .if2 .taken))
 
-threes-test-requires : tie.Need-threes-test-requires
-threes-test-requires c κs = (c .before .before .before .before .before .before .before .pre, list-few (c .before .before .before .before .before .before .before .args .b) (c .before .before .before .before .before .before .before .args .m .now) (c .before .before .before .before .before .before .before .args .d .0) (yes (c .before .list-test .ensures) (c .if3 .left)))
+indices-test-requires : tie.Need-indices-test-requires
+indices-test-requires c κs = (c .before .before .before .before .before .before .pre, record { named = c .before .before .look-up .ensures .1; passed = yes (c .before .list-test .ensures) (c .if2 .left) })
+
+returns-3 : tie.Need-returns-3
+returns-3 c =
+    let b = c .before .before .before .before .before .before .before .before .args .b in
+    let m = c .before .before .before .before .before .before .before .before .args .m .now in
+    rw (forms-as b m (c .before .before .before .before .before .before .before .before .args .d .0), yes (c .before .before .before .before .before .before .descriptor-test .ensures) (c .before .before .before .before .before .if1 .left), yes (c .before .before .before .list-test .ensures ∙ ap (listTest b m) (c .before .before .before .before .look-up .ensures .0)) (c .before .before .if2 .left), no (c .before .indices-test .ensures ∙ ap (λ (x : ℕ). all (indexTest b m x) (from (pageWords b) 0)) (c .before .before .before .before .look-up .ensures .0)) (c .if3 .taken))
+
+threes-once-requires : tie.Need-threes-once-requires
+threes-once-requires c κs = (c .before .before .before .before .before .before .before .before .pre, record { named = c .before .before .before .before .look-up .ensures .1; passed = yes (c .before .before .before .list-test .ensures) (c .before .before .if2 .left) })
 
 returns-4 : tie.Need-returns-4
-returns-4 c = rw (yes (c .before .before .before .before .before .before .descriptor-test .ensures) (c .before .before .before .before .before .if1 .left), yes (c .before .before .before .before .each-word .ensures) (c .before .before .before .if2 .left), yes (c .before .before .list-test .ensures) (c .before .if3 .left)) (c .threes-test .ensures)
+returns-4 c =
+    let b = c .before .before .before .before .before .before .before .before .before .args .b in
+    let m = c .before .before .before .before .before .before .before .before .before .args .m .now in
+    rw (forms-as b m (c .before .before .before .before .before .before .before .before .before .args .d .0), yes (c .before .before .before .before .before .before .before .descriptor-test .ensures) (c .before .before .before .before .before .before .if1 .left), yes (c .before .before .before .before .list-test .ensures ∙ ap (listTest b m) (c .before .before .before .before .before .look-up .ensures .0)) (c .before .before .before .if2 .left), yes (c .before .before .indices-test .ensures ∙ ap (λ (x : ℕ). all (indexTest b m x) (from (pageWords b) 0)) (c .before .before .before .before .before .look-up .ensures .0)) (c .before .if3 .left))
+    (c .threes-once .ensures ∙ ap (λ (x : ℕ). all (λ j. once (stands b m x j) (from (pageWords b) 0)) (from (threes b m x) 0)) (c .before .before .before .before .before .look-up .ensures .0))
 
 pub forms-test-spec : {M : Type 1} → statement M
 forms-test-spec =
@@ -45,9 +52,10 @@ forms-test-spec =
     (tie.spec
     descriptor-test-requires
     returns
-    each-word-requires
-    returns-2
+    look-up-requires
     list-test-requires
+    returns-2
+    indices-test-requires
     returns-3
-    threes-test-requires
+    threes-once-requires
     returns-4)

@@ -1,70 +1,77 @@
-use mathlib.Core.Path.{sym, _∙_}
-use Rattle.memory.specs.Format.{formatWord}
-use Rattle.walk.specs.Finite.{from, all}
-use Rattle.forms.proofs.Laws.Tests.{yes, no, and-true}
+-- `forms::root::root_pages` meets its contract. Assumes nothing.
+use mathlib.Core.List.{List}
+use mathlib.Core.Path.{_≡_, sym, ap, _∙_}
+use Prim.Native.Nat.{ℕ, _+_}
+use lib.Dec.{eqb}
 use borrow.Author.Needs.{needs}
+use Rattle.walk.specs.Finite.{from, all}
+use Rattle.memory.specs.Format.{rootDirectoryWord, rootListWord, formatWord}
+use Rattle.memory.specs.Geometry.{pageWords}
+use Rattle.memory.specs.Partition.{pages}
+use Rattle.memory.specs.Words.{word}
+use Rattle.forms.proofs.Laws.Tests.{yes, no, and-true}
 use Rattle.forms.proofs.root.root_pages.Statement.{statement}
 use Rattle.forms.proofs.root.root_pages.Tie as tie
-use Rattle.forms.proofs.root.root_pages.Reads as reads
-use Rattle.forms.proofs.root.root_pages.Lts as lts
-use Rattle.forms.proofs.questions.each_word.Reads as each-word-reads
 
--- src/root.rt:32:9
-each-word-requires : tie.Need-each-word-requires
-each-word-requires c κs = search needs
+-- n is the number of pages
+directory-of : (b : ℕ) (m : List ℕ) (k : ℕ) {n : ℕ} → n ≡ pages b m
+    → all (λ i. eqb (word b m (2 + k) i) (rootDirectoryWord b n k i)) (from (pageWords b) 0) ≡ all (λ i. eqb (word b m (2 + k) i) (rootDirectoryWord b (pages b m) k i)) (from (pageWords b) 0)
+directory-of b m k e = ap (λ (x : ℕ). all (λ i. eqb (word b m (2 + k) i) (rootDirectoryWord b x k i)) (from (pageWords b) 0)) e
 
--- src/root.rt:33:9
+pages-requires : tie.Need-pages-requires
+pages-requires c κs = search needs
+
+threes-for-requires : tie.Need-threes-for-requires
+threes-for-requires c κs = search needs
+
+root-descriptor-requires : tie.Need-root-descriptor-requires
+root-descriptor-requires c κs = search needs
+
 returns : tie.Need-returns
 unfolding formatWord from all
-returns c = rw (no (c .before .each-word .ensures) (c .if1 .taken))
+returns c = rw (no (c .before .root-descriptor .ensures) (c .if1 .taken))
 
--- src/root.rt:35:9
-each-word-requires-2 : tie.Need-each-word-requires-2
-each-word-requires-2 c κs = search needs
+root-directory-requires : tie.Need-root-directory-requires
+root-directory-requires c κs = search needs
 
--- src/root.rt:36:9
 returns-2 : tie.Need-returns-2
 unfolding formatWord from all
-returns-2 c = rw (yes (c .before .before .before .each-word .ensures) (c .before .before .if1 .left), no (c .before .each-word2 .ensures) (c .if2 .taken))
+returns-2 c = rw (yes (c .before .before .before .root-descriptor .ensures) (c .before .before .if1 .left), no (c .before .root-directory .ensures ∙ directory-of (c .before .before .before .before .before .before .before .args .b) (c .before .before .before .before .before .before .before .args .m .now) 0 (c .before .before .before .before .before .pages .ensures)) (c .if2 .taken))
 
--- src/root.rt:38:9
-each-word-requires-3 : tie.Need-each-word-requires-3
-each-word-requires-3 c κs = search needs
+root-directory-requires-2 : tie.Need-root-directory-requires-2
+root-directory-requires-2 c κs = search needs
 
--- src/root.rt:39:9
 returns-3 : tie.Need-returns-3
 unfolding formatWord from all
-returns-3 c = rw (yes (c .before .before .before .before .before .each-word .ensures) (c .before .before .before .before .if1 .left), yes (c .before .before .before .each-word2 .ensures) (c .before .before .if2 .left), no (c .before .each-word3 .ensures) (c .if3 .taken))
+returns-3 c = rw (yes (c .before .before .before .before .before .root-descriptor .ensures) (c .before .before .before .before .if1 .left), yes (c .before .before .before .root-directory .ensures ∙ directory-of (c .before .before .before .before .before .before .before .before .before .args .b) (c .before .before .before .before .before .before .before .before .before .args .m .now) 0 (c .before .before .before .before .before .before .before .pages .ensures)) (c .before .before .if2 .left), no (c .before .root-directory2 .ensures ∙ directory-of (c .before .before .before .before .before .before .before .before .before .args .b) (c .before .before .before .before .before .before .before .before .before .args .m .now) 1 (c .before .before .before .before .before .before .before .pages .ensures)) (c .if3 .taken))
 
--- src/root.rt:41:9
-each-word-requires-4 : tie.Need-each-word-requires-4
-each-word-requires-4 c κs = search needs
+root-directory-requires-3 : tie.Need-root-directory-requires-3
+root-directory-requires-3 c κs = search needs
 
--- src/root.rt:42:9
 returns-4 : tie.Need-returns-4
 unfolding formatWord from all
-returns-4 c = rw (yes (c .before .before .before .before .before .before .before .each-word .ensures) (c .before .before .before .before .before .before .if1 .left), yes (c .before .before .before .before .before .each-word2 .ensures) (c .before .before .before .before .if2 .left), yes (c .before .before .before .each-word3 .ensures) (c .before .before .if3 .left), no (c .before .each-word4 .ensures) (c .if4 .taken))
+returns-4 c = rw (yes (c .before .before .before .before .before .before .before .root-descriptor .ensures) (c .before .before .before .before .before .before .if1 .left), yes (c .before .before .before .before .before .root-directory .ensures ∙ directory-of (c .before .before .before .before .before .before .before .before .before .before .before .args .b) (c .before .before .before .before .before .before .before .before .before .before .before .args .m .now) 0 (c .before .before .before .before .before .before .before .before .before .pages .ensures)) (c .before .before .before .before .if2 .left), yes (c .before .before .before .root-directory2 .ensures ∙ directory-of (c .before .before .before .before .before .before .before .before .before .before .before .args .b) (c .before .before .before .before .before .before .before .before .before .before .before .args .m .now) 1 (c .before .before .before .before .before .before .before .before .before .pages .ensures)) (c .before .before .if3 .left), no (c .before .root-directory3 .ensures ∙ directory-of (c .before .before .before .before .before .before .before .before .before .before .before .args .b) (c .before .before .before .before .before .before .before .before .before .before .before .args .m .now) 2 (c .before .before .before .before .before .before .before .before .before .pages .ensures)) (c .if4 .taken))
 
--- src/root.rt:44:5
-each-word-requires-5 : tie.Need-each-word-requires-5
-each-word-requires-5 c κs = search needs
+root-list-requires : tie.Need-root-list-requires
+root-list-requires c κs = search needs
 
--- src/root.rt:22:1
 returns-5 : tie.Need-returns-5
 unfolding formatWord from all
-returns-5 c = rw (yes (c .before .before .before .before .before .before .before .before .each-word .ensures) (c .before .before .before .before .before .before .before .if1 .left), yes (c .before .before .before .before .before .before .each-word2 .ensures) (c .before .before .before .before .before .if2 .left), yes (c .before .before .before .before .each-word3 .ensures) (c .before .before .before .if3 .left), yes (c .before .before .each-word4 .ensures) (c .before .if4 .left)) (c .each-word5 .ensures ∙ sym (and-true _))
+returns-5 c = rw (yes (c .before .before .before .before .before .before .before .before .root-descriptor .ensures) (c .before .before .before .before .before .before .before .if1 .left), yes (c .before .before .before .before .before .before .root-directory .ensures ∙ directory-of (c .before .before .before .before .before .before .before .before .before .before .before .before .args .b) (c .before .before .before .before .before .before .before .before .before .before .before .before .args .m .now) 0 (c .before .before .before .before .before .before .before .before .before .before .pages .ensures)) (c .before .before .before .before .before .if2 .left), yes (c .before .before .before .before .root-directory2 .ensures ∙ directory-of (c .before .before .before .before .before .before .before .before .before .before .before .before .args .b) (c .before .before .before .before .before .before .before .before .before .before .before .before .args .m .now) 1 (c .before .before .before .before .before .before .before .before .before .before .pages .ensures)) (c .before .before .before .if3 .left), yes (c .before .before .root-directory3 .ensures ∙ directory-of (c .before .before .before .before .before .before .before .before .before .before .before .before .args .b) (c .before .before .before .before .before .before .before .before .before .before .before .before .args .m .now) 2 (c .before .before .before .before .before .before .before .before .before .before .pages .ensures)) (c .before .if4 .left)) (c .root-list .ensures ∙ ap (λ (x : ℕ). all (λ i. eqb (word (c .before .before .before .before .before .before .before .before .before .before .before .before .args .b) (c .before .before .before .before .before .before .before .before .before .before .before .before .args .m .now) 5 i) (rootListWord (c .before .before .before .before .before .before .before .before .before .before .before .before .args .b) x i)) (from (pageWords (c .before .before .before .before .before .before .before .before .before .before .before .before .args .b)) 0)) (c .before .before .before .before .before .before .before .before .before .before .pages .ensures) ∙ sym (and-true _))
 
 pub root-pages-spec : {M : Type 1} → statement M
 root-pages-spec =
     tie.close
     (tie.spec
-    each-word-requires
+    pages-requires
+    threes-for-requires
+    root-descriptor-requires
     returns
-    each-word-requires-2
+    root-directory-requires
     returns-2
-    each-word-requires-3
+    root-directory-requires-2
     returns-3
-    each-word-requires-4
+    root-directory-requires-3
     returns-4
-    each-word-requires-5
+    root-list-requires
     returns-5)

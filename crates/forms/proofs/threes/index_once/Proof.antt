@@ -1,38 +1,72 @@
-use Prim.Native.Nat.{ℕ}
-use mathlib.Core.Path.{refl, ap, _∙_}
-use Rattle.soundness.specs.Test.{stands}
-use Rattle.walk.specs.Finite.{from, once}
-use Rattle.forms.proofs.Laws.Tests.{unequal, equal}
+-- `forms::threes::index_once` meets its contract. Assumes nothing.
+use mathlib.Core.Bool.{Bool, cond}
+use mathlib.Core.Path.{_≡_, refl, ap, _∙_}
+use Prim.Native.Nat.{ℕ, _+_, _-_, _≤_}
+use native.Mathlib.Omega.{arith}
+use lib.ListN.{length}
 use borrow.Author.Needs.{needs}
+use Rattle.walk.specs.Finite.{from, keep, once}
+use Rattle.soundness.specs.Test.{stands}
+use Rattle.forms.proofs.Laws.Asked.{stands-as}
+use Rattle.forms.proofs.Laws.Loops.{bit-le, found-start, found-more, found-all}
 use Rattle.forms.proofs.threes.index_once.Statement.{statement}
 use Rattle.forms.proofs.threes.index_once.Tie as tie
-use Rattle.forms.proofs.threes.index_once.Reads as reads
-use Rattle.forms.proofs.threes.index_once.Lts as lts
-use Rattle.forms.proofs.roots.directory_word.Reads as directory-word-reads
-use Rattle.forms.proofs.threes.stands_once.Reads as stands-once-reads
-use Rattle.pages.proofs.threes.Reads as threes-reads
 
--- src/threes.rt:101:8
-directory-word-requires : tie.Need-directory-word-requires
-directory-word-requires c κs = search needs
+abbrev Inv-loop : tie.InvT-loop
+Inv-loop b m o i n found₀ j₀ found j =
+    (found ≤ j) × (j ≤ n)
+    × (length (keep (λ k. stands b m (o .descriptor .0) k i) (from n 0)) ≡ found + length (keep (λ k. stands b m (o .descriptor .0) k i) (from (n - j) j)))
 
--- src/threes.rt:102:9
-returns : tie.Need-returns
-returns c = rw (equal (c .before .directory-word .ensures) refl (c .if1 .taken))
+abbrev μ-loop : tie.MeasureT-loop
+μ-loop b m o i n found₀ j₀ found j = n - j
 
--- src/threes.rt:104:42
-threes-requires : tie.Need-threes-requires
-threes-requires c κs = search needs
+loop-holds : tie.Need-loop-holds Inv-loop μ-loop
+loop-holds c = (omega arith, omega arith, found-start (λ k. stands (c .before .args .b) (c .before .args .m .now) (c .before .args .o .descriptor .0) k (c .before .args .i)) (c .before .args .o .threes) 0 refl)
 
--- src/threes.rt:104:5
-stands-once-requires : tie.Need-stands-once-requires
-stands-once-requires c κs = search needs
+three-of-requires : tie.Need-three-of-requires Inv-loop μ-loop
+three-of-requires c κs = (c .before .before .before .pre .0, (c .before .before .before .pre .1 .0, omega (arith, c .before .before .before .pre .1 .0 .named .counted)))
 
--- src/threes.rt:90:1
-returns-2 : tie.Need-returns-2
-returns-2 c = rw (unequal (c .before .before .before .directory-word .ensures) refl (c .before .before .if1 .left)) (c .stands-once .ensures ∙ ap (λ (n : ℕ). once (λ j. stands (c .before .before .before .before .before .args .b) (c .before .before .before .before .before .args .m .now) (c .before .before .before .before .before .args .d .0) j (c .before .before .before .before .before .args .i)) (from n 0)) (c .before .threes .ensures))
+are-at-requires : tie.Need-are-at-requires Inv-loop μ-loop
+are-at-requires c κs = (c .before .before .before .before .pre .0, (c .before .before .before .before .pre .1 .0 .named, c .before .before .before .before .pre .1 .1))
+
+bit-requires : tie.Need-bit-requires Inv-loop μ-loop
+bit-requires c κs = search needs
+
+add-found : tie.Need-add-found Inv-loop μ-loop
+add-found c = omega (arith, c .bit .ensures, bit-le (c .before .are-at .result))
+
+add-j : tie.Need-add-j Inv-loop μ-loop
+add-j c = search needs
+
+loop-less : tie.Need-loop-less Inv-loop μ-loop
+loop-less c = search needs
+
+loop-again : tie.Need-loop-again Inv-loop μ-loop
+loop-again c =
+    let p = c .before .before .before .before .loop in
+    let t = c .before .before .three-of .ensures in
+    let f : ℕ → Bool = λ k. stands (c .before .before .before .before .before .before .args .b) (c .before .before .before .before .before .before .args .m .now) (c .before .before .before .before .before .before .args .o .descriptor .0) k (c .before .before .before .before .before .before .args .i) in
+    let s : c .before .are-at .result ≡ f (p .j) = c .before .are-at .ensures ∙ stands-as (c .before .before .before .before .before .before .args .b) (c .before .before .before .before .before .before .args .m .now) (c .before .before .before .before .before .before .args .o .descriptor .0) (p .j) (t .0) (t .1) (t .2) (c .before .before .before .before .before .before .args .i) in
+    let e : c .bit .result ≡ cond (f (p .j)) 1 0 = c .bit .ensures ∙ ap (λ (x : Bool). cond x 1 0) s in
+    (omega (arith, bit-le (f (p .j))), omega arith, found-more f (c .before .before .before .before .before .before .args .o .threes) (p .j) (p .found) (omega arith) e (p .inv .2))
+
+returns : tie.Need-returns Inv-loop μ-loop
+returns c =
+    let f : ℕ → Bool = λ k. stands (c .before .before .before .args .b) (c .before .before .before .args .m .now) (c .before .before .before .args .o .descriptor .0) k (c .before .before .before .args .i) in
+    found-all f (c .before .before .before .args .o .threes) (c .before .loop .j) (c .before .loop .found) (omega arith) (c .before .loop .inv .2) ∙ ap (λ (n : ℕ). once f (from n 0)) (c .before .before .before .pre .1 .0 .named .counted)
 
 pub index-once-spec : {M : Type 1} → statement M
 index-once-spec =
     tie.close
-    (tie.spec directory-word-requires returns threes-requires stands-once-requires returns-2)
+    (tie.spec
+    Inv-loop
+    μ-loop
+    loop-holds
+    three-of-requires
+    are-at-requires
+    bit-requires
+    add-found
+    add-j
+    loop-less
+    loop-again
+    returns)

@@ -1,0 +1,114 @@
+-- What is asked at an index and of a pair, in the code's terms. Assumes nothing.
+use mathlib.Core.Path.{_≡_, refl, sym, ap, _∙_}
+use mathlib.Core.Bool.{Bool, true, false, cond, not, _&&_, _||_}
+use mathlib.Core.List.{List}
+use mathlib.Core.Logic.{_≢_}
+use Prim.Native.Nat.{ℕ, _+_, _-_, _*_, _%_, _^_, _<_, _≤_}
+use native.Mathlib.Omega.{arith}
+use lib.Bits.{bitOr}
+use lib.Dec.{leb, eqb}
+use lib.ListN.{length}
+use lib.Pow.{pow-add}
+use borrow.Author.Tests.{eqb-true, eq-eqb, ne-eqb}
+use Rattle.walk.specs.Finite.{from, all, keep, once}
+use Rattle.memory.specs.Geometry.{pageWords, address, pageOf}
+use Rattle.memory.specs.Words.{word}
+use Rattle.memory.specs.Entry.{accessible}
+use Rattle.memory.specs.Partition.{directory, shadow1, shadow2, list, threes, tableWord, mapping, lent}
+use Rattle.soundness.specs.Test.{virtual, physical, tableLink, directoryTest, stands, agrees, shutAt}
+use Rattle.forms.specs.Asked.{links, alike, noTables, indexTest, pairForm, pairShut}
+use Rattle.forms.proofs.Laws.Tests.{and-false, and-fst, and-snd}
+use Rattle.forms.proofs.Laws.Loops.{all-at, all-yes}
+use Rattle.forms.proofs.Laws.Runs.{or-zero}
+
+-- ---- the words of an index
+
+covered : (p q s t : Bool) → (p || s) && (q || t) && (p && q) ≡ p && q
+covered true true s t = refl
+covered true false s t = and-false t
+covered false q s t = and-false (s && (q || t))
+
+module _ (b : ℕ) (m : List ℕ) (w x y : ℕ) where
+  pub links-none : w ≡ 0 → links b m w x y ≡ eqb x 0 && eqb y 0
+  unfolding links tableLink
+  links-none e = rw (eq-eqb w 0 e) (covered (eqb x 0) (eqb y 0) _ _)
+
+  pub links-some : w ≢ 0 → links b m w x y ≡ tableLink b m w && tableLink b m x && tableLink b m y && (not (eqb x 0) && not (eqb y 0))
+  unfolding links
+  links-some n = rw (ne-eqb w 0 n) refl
+
+-- w, x and y are the words of index i of d's directory and shadows
+module _ (b : ℕ) (m : List ℕ) (d i : ℕ) {w x y : ℕ} (e : w ≡ word b m (directory b m d) i) (q : x ≡ word b m (shadow1 b m d) i) (s : y ≡ word b m (shadow2 b m d) i) where
+  pub joined-as : eqb (bitOr (bitOr w x) y) 0 ≡ noTables b m d i
+  unfolding noTables alike
+  joined-as = or-zero (bitOr w x) y ∙ ap (λ (t : Bool). t && eqb y 0) (or-zero w x) ∙ rw (e, q, s) refl
+
+  pub alike-as : (u v z : ℕ) → alike b m d u v z i ≡ eqb w u && eqb x v && eqb y z
+  unfolding alike
+  alike-as u v z = rw (e, q, s) refl
+
+  links-as : directoryTest b m d i ≡ links b m w x y
+  unfolding directoryTest links
+  links-as = rw (e, q, s) refl
+
+  pub index-wrong : links b m w x y ≡ false → false ≡ indexTest b m d i
+  unfolding indexTest
+  index-wrong h = rw (links-as, h) refl
+
+  pub index-none : links b m w x y ≡ true → w ≡ 0 → true ≡ indexTest b m d i
+  unfolding indexTest
+  index-none h z = rw (links-as, h, ← e, eq-eqb w 0 z) refl
+
+  pub index-some : links b m w x y ≡ true → w ≢ 0 → indexTest b m d i ≡ once (λ j. stands b m d j i) (from (threes b m d) 0)
+  unfolding indexTest
+  index-some h n = rw (links-as, h, ← e, ne-eqb w 0 n) refl
+
+-- an index without tables passes, and so does a row of them
+no-tables : (b : ℕ) (m : List ℕ) (d i : ℕ) → noTables b m d i ≡ true → indexTest b m d i ≡ true
+unfolding noTables alike
+no-tables b m d i h =
+    let p = word b m (directory b m d) i in
+    let q = word b m (shadow1 b m d) i in
+    let r = word b m (shadow2 b m d) i in
+    let k = and-fst (eqb p 0 && eqb q 0) (eqb r 0) h in
+    let e : p ≡ 0 = eqb-true p 0 (and-fst (eqb p 0) (eqb q 0) k) in
+    sym (index-none b m d i {w = p} {x = q} {y = r} refl refl refl (links-none b m p q r e ∙ rw (and-snd (eqb p 0) (eqb q 0) k, and-snd (eqb p 0 && eqb q 0) (eqb r 0) h) refl) e)
+
+pub row-passes : (b : ℕ) (m : List ℕ) (d n i : ℕ) → all (noTables b m d) (from n i) ≡ true → all (indexTest b m d) (from n i) ≡ true
+row-passes b m d n i h = all-yes (indexTest b m d) n i (λ x a l. no-tables b m d x (all-at (noTables b m d) n i h x a l))
+
+-- the words of a page are whole rows of eight
+pub rows-whole : (b : ℕ) → 6 ≤ b → pageWords b % 8 ≡ 0
+rows-whole b h = let e : b - 3 + 3 ≡ b = omega arith in omega (arith, pow-add 2 (b - 3) 3, ap (λ (x : ℕ). 2 ^ x) e)
+
+-- ---- a three of the list: u, v and z are the words with which it stands
+
+module _ (b : ℕ) (m : List ℕ) (d j : ℕ) {u v z : ℕ} (e : u ≡ word b m (list b m d) (2 + 6 * j) + 1) (q : v ≡ word b m (list b m d) (4 + 6 * j) + 1) (s : z ≡ word b m (list b m d) (6 + 6 * j) + 1) where
+  pub stands-as : (i : ℕ) → alike b m d u v z i ≡ stands b m d j i
+  unfolding alike stands
+  stands-as i = rw (e, q, s) refl
+
+  pub three-as : {r : ℕ} → r ≡ length (keep (alike b m d u v z) (from (pageWords b) 0)) → eqb r 1 ≡ once (stands b m d j) (from (pageWords b) 0)
+  unfolding once alike stands
+  three-as h = rw (h, e, q, s) refl
+
+-- ---- a pair: v and a are its words
+
+module _ (b : ℕ) (m : List ℕ) (p k j : ℕ) {v a : ℕ} (e : v ≡ word b m p (k + 2 * j)) (q : a ≡ word b m p (k + 1 + 2 * j)) where
+  pub pair-form-as : virtual b v && physical b m a ≡ pairForm b m p k j
+  unfolding pairForm
+  pair-form-as = rw (e, q) refl
+
+  pub pair-shut-as : (d : ℕ) → agrees b m d v a && shutAt b m d v ≡ pairShut b m d p k j
+  unfolding pairShut
+  pair-shut-as d = rw (e, q) refl
+
+-- w and x are the words of the page table and of shadow 1 there
+pub shut-as : (b : ℕ) (m : List ℕ) (d v a : ℕ) {w x : ℕ} → w ≡ mapping b m d v → x ≡ lent b m d v
+    → agrees b m d v a && shutAt b m d v ≡ not (eqb w 0) && eqb (address b (pageOf b w)) a && (not (eqb w 0) && eqb (accessible w) 0 && leb x 1)
+unfolding agrees shutAt
+shut-as b m d v a e q = rw (e, q) refl
+
+-- a word of the tables under a root
+pub table-as : (b : ℕ) (m : List ℕ) {t p q k l : ℕ} → t ≡ tableWord b m p k → p ≡ q → k ≡ l → t ≡ tableWord b m q l
+table-as b m {p = p} {l = l} h e f = h ∙ ap (tableWord b m p) f ∙ ap (λ (x : ℕ). tableWord b m x l) e

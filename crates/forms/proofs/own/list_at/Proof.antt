@@ -1,0 +1,20 @@
+-- `forms::own::list_at` meets its contract. Assumes nothing.
+use borrow.Author.Needs.{needs}
+use Rattle.forms.proofs.Laws.Indices.{word-by-index}
+use Rattle.forms.proofs.own.list_at.Statement.{statement}
+use Rattle.forms.proofs.own.list_at.Tie as tie
+
+index-requires : tie.Need-index-requires
+index-requires c κs = search needs
+
+add-read : tie.Need-add-read
+add-read c = search needs
+
+read-requires : tie.Need-read-requires
+read-requires c κs = search needs
+
+returns : tie.Need-returns
+returns c = word-by-index (c .before .before .before .args .b) (c .before .before .before .args .m .now) (c .before .before .before .args .i) (c .read .ensures) (c .before .index .ensures .0) (c .before .before .before .pre .1 .0 .at-list)
+
+pub list-at-spec : {M : Type 1} → statement M
+list-at-spec = tie.close (tie.spec index-requires add-read read-requires returns)

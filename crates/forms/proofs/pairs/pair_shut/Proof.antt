@@ -1,0 +1,49 @@
+-- `forms::pairs::pair_shut` meets its contract. Assumes nothing.
+use mathlib.Core.Path.{refl}
+use borrow.Author.Needs.{needs}
+use borrow.Author.Tests.{eq-eqb, ne-eqb}
+use Rattle.forms.proofs.Laws.Asked.{shut-as, table-as}
+use Rattle.forms.proofs.Laws.Tests.{equal, unequal}
+use Rattle.forms.proofs.pairs.pair_shut.Statement.{statement}
+use Rattle.forms.proofs.pairs.pair_shut.Tie as tie
+
+virtual-page-requires : tie.Need-virtual-page-requires
+virtual-page-requires c κs = search needs
+
+table-word-requires : tie.Need-table-word-requires
+table-word-requires c κs = search needs
+
+returns : tie.Need-returns
+returns c = rw (shut-as (c .before .before .before .before .args .b) (c .before .before .before .before .args .m .now) (c .before .before .before .before .args .o .descriptor .0) (c .before .before .before .before .args .p .0) (c .before .before .before .before .args .p .1) (table-as (c .before .before .before .before .args .b) (c .before .before .before .before .args .m .now) (c .before .table-word .ensures) (c .before .before .before .before .pre .1 .at-directory) (c .before .before .virtual-page .ensures)) refl, eq-eqb (c .before .table-word .result) 0 (c .if1 .taken))
+
+frame-requires : tie.Need-frame-requires
+frame-requires c κs = search needs
+
+returns-2 : tie.Need-returns-2
+returns-2 c = rw (shut-as (c .before .before .before .before .before .before .before .args .b) (c .before .before .before .before .before .before .before .args .m .now) (c .before .before .before .before .before .before .before .args .o .descriptor .0) (c .before .before .before .before .before .before .before .args .p .0) (c .before .before .before .before .before .before .before .args .p .1) (table-as (c .before .before .before .before .before .before .before .args .b) (c .before .before .before .before .before .before .before .args .m .now) (c .before .before .before .before .table-word .ensures) (c .before .before .before .before .before .before .before .pre .1 .at-directory) (c .before .before .before .before .before .virtual-page .ensures)) refl, ne-eqb (c .before .before .before .before .table-word .result) 0 (c .before .before .before .if1 .left), unequal (c .before .before .frame .ensures .0) refl (c .if2 .taken))
+
+accessible-requires : tie.Need-accessible-requires
+accessible-requires c κs = search needs
+
+returns-3 : tie.Need-returns-3
+returns-3 c = rw (shut-as (c .before .before .before .before .before .before .before .before .before .args .b) (c .before .before .before .before .before .before .before .before .before .args .m .now) (c .before .before .before .before .before .before .before .before .before .args .o .descriptor .0) (c .before .before .before .before .before .before .before .before .before .args .p .0) (c .before .before .before .before .before .before .before .before .before .args .p .1) (table-as (c .before .before .before .before .before .before .before .before .before .args .b) (c .before .before .before .before .before .before .before .before .before .args .m .now) (c .before .before .before .before .before .before .table-word .ensures) (c .before .before .before .before .before .before .before .before .before .pre .1 .at-directory) (c .before .before .before .before .before .before .before .virtual-page .ensures)) refl, ne-eqb (c .before .before .before .before .before .before .table-word .result) 0 (c .before .before .before .before .before .if1 .left), equal (c .before .before .before .before .frame .ensures .0) refl (c .before .before .if2 .left), unequal (c .before .accessible .ensures) refl (c .if3 .taken))
+
+table-word-requires-2 : tie.Need-table-word-requires-2
+table-word-requires-2 c κs = search needs
+
+returns-4 : tie.Need-returns-4
+returns-4 c = rw (shut-as (c .before .before .before .before .before .before .before .before .before .before .args .b) (c .before .before .before .before .before .before .before .before .before .before .args .m .now) (c .before .before .before .before .before .before .before .before .before .before .args .o .descriptor .0) (c .before .before .before .before .before .before .before .before .before .before .args .p .0) (c .before .before .before .before .before .before .before .before .before .before .args .p .1) (table-as (c .before .before .before .before .before .before .before .before .before .before .args .b) (c .before .before .before .before .before .before .before .before .before .before .args .m .now) (c .before .before .before .before .before .before .before .table-word .ensures) (c .before .before .before .before .before .before .before .before .before .before .pre .1 .at-directory) (c .before .before .before .before .before .before .before .before .virtual-page .ensures)) (table-as (c .before .before .before .before .before .before .before .before .before .before .args .b) (c .before .before .before .before .before .before .before .before .before .before .args .m .now) (c .table-word2 .ensures) (c .before .before .before .before .before .before .before .before .before .before .pre .1 .at-shadow1) (c .before .before .before .before .before .before .before .before .virtual-page .ensures)), ne-eqb (c .before .before .before .before .before .before .before .table-word .result) 0 (c .before .before .before .before .before .before .if1 .left), equal (c .before .before .before .before .before .frame .ensures .0) refl (c .before .before .before .if2 .left), equal (c .before .before .accessible .ensures) refl (c .before .if3 .left))
+
+pub pair-shut-spec : {M : Type 1} → statement M
+pair-shut-spec =
+    tie.close
+    (tie.spec
+    virtual-page-requires
+    table-word-requires
+    returns
+    frame-requires
+    returns-2
+    accessible-requires
+    returns-3
+    table-word-requires-2
+    returns-4)

@@ -1,0 +1,57 @@
+-- `forms::words::zeros` meets its contract. Assumes nothing.
+use mathlib.Core.Bool.{_&&_}
+use mathlib.Core.Path.{_≡_, refl}
+use Prim.Native.Nat.{_-_}
+use native.Mathlib.Omega.{arith}
+use lib.Dec.{eqb}
+use lib.ListN.{getD}
+use borrow.Author.Needs.{needs}
+use Rattle.walk.specs.Finite.{from, all}
+use Rattle.forms.proofs.Laws.Runs.{join-more, join-end, past-end}
+use Rattle.forms.proofs.words.zeros.Statement.{statement}
+use Rattle.forms.proofs.words.zeros.Tie as tie
+
+abbrev Inv-loop : tie.InvT-loop
+Inv-loop m a e end joined₀ i₀ joined i = all (λ k. eqb (getD m k 0) 0) (from (e - a) a) ≡ eqb joined 0 && all (λ k. eqb (getD m k 0) 0) (from (e - i) i)
+
+abbrev μ-loop : tie.MeasureT-loop
+μ-loop m a e end joined₀ i₀ joined i = end - i
+
+least-requires : tie.Need-least-requires Inv-loop μ-loop
+least-requires c κs = search needs
+
+loop-holds : tie.Need-loop-holds Inv-loop μ-loop
+loop-holds c = refl
+
+mul-joined : tie.Need-mul-joined Inv-loop μ-loop
+mul-joined c = search needs
+
+shared-slice-read-joined : tie.Need-shared-slice-read-joined Inv-loop μ-loop
+shared-slice-read-joined c = search needs
+
+add-i : tie.Need-add-i Inv-loop μ-loop
+add-i c = search needs
+
+loop-less : tie.Need-loop-less Inv-loop μ-loop
+loop-less c = search needs
+
+loop-again : tie.Need-loop-again Inv-loop μ-loop
+loop-again c = join-more (λ k. eqb (getD (c .before .before .before .before .before .args .m .now) k 0) 0) (c .before .before .before .before .before .args .e) (c .before .before .loop .i) (c .before .before .loop .joined) (getD (c .before .before .before .before .before .args .m .now) (c .before .before .loop .i) 0) (omega arith) refl (c .before .before .loop .inv)
+
+returns : tie.Need-returns Inv-loop μ-loop
+returns c = join-end (λ k. eqb (getD (c .before .before .before .before .args .m .now) k 0) 0) (c .before .before .before .before .args .e) (c .before .loop .i) (c .before .loop .joined) (past-end (c .before .before .before .before .args .m .now) (c .before .before .before .before .args .e) (c .before .loop .i) (omega arith)) (c .before .loop .inv)
+
+pub zeros-spec : {M : Type 1} → statement M
+zeros-spec =
+    tie.close
+    (tie.spec
+    Inv-loop
+    μ-loop
+    least-requires
+    loop-holds
+    mul-joined
+    shared-slice-read-joined
+    add-i
+    loop-less
+    loop-again
+    returns)

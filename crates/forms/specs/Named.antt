@@ -1,0 +1,29 @@
+-- The pages of a partition as the code looked them up. Assumes nothing.
+use mathlib.Core.Path.{_≡_}
+use mathlib.Core.Bool.{true}
+use mathlib.Core.List.{List}
+use Prim.Native.Nat.{ℕ, _≤_}
+use lib.ListN.{length}
+use Rattle.memory.specs.Geometry.{pageWords}
+use Rattle.memory.specs.Words.{index}
+use Rattle.memory.specs.Partition.{directory, shadow1, shadow2, list, threes}
+use Rattle.soundness.specs.Test.{listTest}
+use Rattle.forms.specs.declared.own.Own.{Own}
+
+-- page p lies in the memory
+abbrev pub Whole : ℕ → List ℕ → ℕ → Type 0
+Whole b m p = index b p (pageWords b) ≤ length m
+
+-- o has the pages that its descriptor names, and the number of its threes
+pub record Named (b : ℕ) (m : List ℕ) (o : Own) : Type 0 where
+  pub at-directory : o .directory .0 ≡ directory b m (o .descriptor .0)
+  pub at-shadow1 : o .shadow1 .0 ≡ shadow1 b m (o .descriptor .0)
+  pub at-shadow2 : o .shadow2 .0 ≡ shadow2 b m (o .descriptor .0)
+  pub at-list : o .list .0 ≡ list b m (o .descriptor .0)
+  pub counted : o .threes ≡ threes b m (o .descriptor .0)
+  pub lie : o .whole ≡ true → Whole b m (o .directory .0) × Whole b m (o .shadow1 .0) × Whole b m (o .shadow2 .0)
+
+-- and its list has passed
+pub record Listed (b : ℕ) (m : List ℕ) (o : Own) : Type 0 where
+  pub named : Named b m o
+  pub passed : listTest b m (o .descriptor .0) ≡ true
