@@ -5,7 +5,7 @@ use mathlib.Core.Bool.{Bool, true, cond, not, _&&_, _||_}
 use Prim.Native.Nat.{ℕ, _+_, _*_}
 use lib.Dec.{leb, eqb}
 use lib.ListN.{getD}
-use Rattle.memory.specs.Geometry.{pageWords, pageOf, threesFor, flatPages, mostThrees}
+use Rattle.memory.specs.Geometry.{pageWords, pageOf, mostThrees}
 use Rattle.memory.specs.Words.{word, page}
 use Rattle.memory.specs.Entry.{accessible, rights, allRights, holds}
 use Rattle.memory.specs.Partition.{parent, threes, tableFor, mapping, lent}
@@ -62,7 +62,9 @@ module _ (b : ℕ) (m : List ℕ) where
       cond (eqb w 0) (eqb x 0 && eqb y 0)
       (entryTest b m w && virtual b y && shadow1Word d v w x && (eqb d 1 || fromWords (parent b m d) (word b m d 0) w y))
 
--- the words of the root at virtual page v, in a memory of n pages
-abbrev pub rootWords : ℕ → ℕ → ℕ → ℕ → ℕ → Bool
-rootWords b n v w y =
-    cond (leb 1 v && leb v (flatPages b n)) (eqb (pageOf b w) (5 + 3 * threesFor b n + v) && eqb (rights w) allRights) (eqb w 0) && eqb y 0
+-- the words of the root at virtual page v: it maps the flat pages, from first + 1 on
+abbrev pub rootWord : ℕ → ℕ → ℕ → ℕ → ℕ → Bool
+rootWord b first flat v w = cond (leb 1 v && leb v flat) (eqb (pageOf b w) (first + v) && eqb (rights w) allRights) (eqb w 0)
+
+abbrev pub rootWords : ℕ → ℕ → ℕ → ℕ → ℕ → ℕ → Bool
+rootWords b first flat v w y = eqb y 0 && rootWord b first flat v w
