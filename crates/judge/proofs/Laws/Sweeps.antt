@@ -20,7 +20,7 @@ use Rattle.soundness.specs.Test.{virtual, rootMapTest, fromParent, handPages}
 use Rattle.judging.specs.Quick.{entryTest, childCell, lentCell, shadow1Cell, cell, shutCell, shutCount, dueCount, lentCount, mappedCount}
 use Rattle.judge.specs.Search.{seek}
 use Rattle.judge.specs.Run.{run, adding, asking, marking, bit}
-use Rattle.judge.specs.Rows.{table, used, anyUsed, childWords, shutWords, handWords, dueWords, fromWords, shadow1Word, cellWords, rootWord, rootWords}
+use Rattle.judge.specs.Rows.{table, used, anyUsed, childWords, shutWords, handWords, dueWords, Lends, fromWords, shadow1Word, cellWords, rootWord, rootWords}
 use Rattle.judge.proofs.Laws.Run.{run-skip, run-end, sum-on, length-run, sums-run, all-run, each-run}
 use Rattle.judge.proofs.Laws.Search.{sought}
 use Rattle.judge.proofs.Laws.Rows.{cell-at, row-run, rows-short}
@@ -89,7 +89,7 @@ cells-on b m d v r s t k n i {j} e =
     (λ x a l. empty (eqb (getD r x 0) 0) (eqb (getD s x 0) 0) (eqb (getD t x 0) 0) x (q .passed x a l))
   where
     empty : (f g h : Bool) (x : ℕ) → not (f && g && h) ≡ false
-        → cond f (g && h) (entryTest b m (getD r x 0) && virtual b (getD t x 0) && shadow1Word b m d (address b (v + x)) (getD r x 0) (getD s x 0) && (eqb d 1 || fromWords b m (parent b m d) (word b m d 0) (getD r x 0) (getD t x 0))) ≡ true
+        → cond f (g && h) (entryTest b m (getD r x 0) && virtual b (getD t x 0) && shadow1Word b m d (address b (v + x)) (getD r x 0) (getD s x 0) && (eqb d 1 || fromWords b m (directory b m (parent b m d)) (shadow1 b m (parent b m d)) (word b m d 0) (getD r x 0) (getD t x 0))) ≡ true
     empty true true true x z = refl
     empty true true false x z = absurd (false≢true (sym z))
     empty true false h x z = absurd (false≢true (sym z))
@@ -99,6 +99,11 @@ cells-on b m d v r s t k n i {j} e =
 pub cell-words : (b : ℕ) (m : List ℕ) (d v : ℕ) {w x y w′ x′ y′ : ℕ} → w ≡ w′ → x ≡ x′ → y ≡ y′ → cellWords b m d v w x y ≡ cellWords b m d v w′ x′ y′
 cell-words b m d v {w} {x} {y} {w′} {x′} {y′} e f g =
     ap (λ (z : ℕ). cellWords b m d v z x y) e ∙ ap (λ (z : ℕ). cellWords b m d v w′ z y) f ∙ ap (λ (z : ℕ). cellWords b m d v w′ x′ z) g
+
+-- the lender that the code looked up
+pub from-lender : (b : ℕ) (m : List ℕ) (d w y : ℕ) {dir sh1 v : ℕ} → Lends b m d dir sh1 v
+    → fromWords b m dir sh1 v w y ≡ fromWords b m (directory b m (parent b m d)) (shadow1 b m (parent b m d)) (word b m d 0) w y
+from-lender b m d w y (e, f, g) = rw (e, f, g)
 
 pub root-words : (b first flat v : ℕ) {w y w′ y′ : ℕ} → w ≡ w′ → y ≡ y′ → rootWords b first flat v w y ≡ rootWords b first flat v w′ y′
 root-words b first flat v {w} {y} {w′} {y′} e f = ap (λ (x : ℕ). rootWords b first flat v x y) e ∙ ap (λ (x : ℕ). rootWords b first flat v w′ x) f
