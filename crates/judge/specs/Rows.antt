@@ -1,14 +1,15 @@
 -- The words of a table as a list, and what is asked of the words of a row, whose places are 0 up to the words of a page: w of the page table, x of shadow
 -- 1, y of shadow 2. Assumes nothing.
+use mathlib.Core.Path.{_≡_}
 use mathlib.Core.List.{List, []}
 use mathlib.Core.Bool.{Bool, true, cond, not, _&&_, _||_}
 use Prim.Native.Nat.{ℕ, _+_, _*_}
 use lib.Dec.{leb, eqb}
 use lib.ListN.{getD}
-use Rattle.memory.specs.Geometry.{pageWords, pageOf, threesFor, flatPages, mostThrees}
+use Rattle.memory.specs.Geometry.{pageWords, pageOf, mostThrees}
 use Rattle.memory.specs.Words.{word, page}
 use Rattle.memory.specs.Entry.{accessible, rights, allRights, holds}
-use Rattle.memory.specs.Partition.{parent, threes, tableFor, mapping, lent}
+use Rattle.memory.specs.Partition.{directory, shadow1, parent, threes, tableFor, tableWord}
 use Rattle.memory.specs.Counts.{childAt}
 use Rattle.soundness.specs.Test.{virtual, childTest, kernelShut}
 use Rattle.judging.specs.Quick.{entryTest}
@@ -42,11 +43,16 @@ module _ (b : ℕ) (m : List ℕ) where
   abbrev pub dueWords : ℕ → ℕ → ℕ
   dueWords w x = cond (childWords w x) (5 + 3 * threes b m (pageOf b w)) 0
 
-  -- the page whose word is w comes from p, which lends it to the child at v; y is the address there
-  abbrev pub fromWords : ℕ → ℕ → ℕ → ℕ → Bool
-  fromWords p v w y =
-      not (eqb (mapping b m p y) 0) && eqb (pageOf b w) (pageOf b (mapping b m p y)) && eqb (accessible w) (accessible (mapping b m p y))
-      && holds (rights w) (mapping b m p y) && eqb (lent b m p y) v
+  -- the directory, the shadow 1 and the child's address of the parent of d
+  abbrev pub Lends : ℕ → ℕ → ℕ → ℕ → Type 0
+  Lends d dir sh1 v = (dir ≡ directory b m (parent b m d)) × (sh1 ≡ shadow1 b m (parent b m d)) × (v ≡ word b m d 0)
+
+  -- the page whose word is w comes from the parent, at address y there, which lends it to the child at v
+  abbrev pub fromWords : ℕ → ℕ → ℕ → ℕ → ℕ → Bool
+  fromWords dir sh1 v w y =
+      not (eqb (tableWord b m dir (pageOf b y)) 0) && eqb (pageOf b w) (pageOf b (tableWord b m dir (pageOf b y)))
+      && eqb (accessible w) (accessible (tableWord b m dir (pageOf b y))) && holds (rights w) (tableWord b m dir (pageOf b y))
+      && eqb (tableWord b m sh1 (pageOf b y)) v
 
   abbrev pub lentWord : ℕ → ℕ → Bool
   lentWord d x = virtual b x && not (eqb (tableFor b m d x) 0) && childAt b m d x
@@ -60,9 +66,11 @@ module _ (b : ℕ) (m : List ℕ) where
   abbrev pub cellWords : ℕ → ℕ → ℕ → ℕ → ℕ → Bool
   cellWords d v w x y =
       cond (eqb w 0) (eqb x 0 && eqb y 0)
-      (entryTest b m w && virtual b y && shadow1Word d v w x && (eqb d 1 || fromWords (parent b m d) (word b m d 0) w y))
+      (entryTest b m w && virtual b y && shadow1Word d v w x && (eqb d 1 || fromWords (directory b m (parent b m d)) (shadow1 b m (parent b m d)) (word b m d 0) w y))
 
--- the words of the root at virtual page v, in a memory of n pages
-abbrev pub rootWords : ℕ → ℕ → ℕ → ℕ → ℕ → Bool
-rootWords b n v w y =
-    cond (leb 1 v && leb v (flatPages b n)) (eqb (pageOf b w) (5 + 3 * threesFor b n + v) && eqb (rights w) allRights) (eqb w 0) && eqb y 0
+-- the words of the root at virtual page v: it maps the flat pages, from first + 1 on
+abbrev pub rootWord : ℕ → ℕ → ℕ → ℕ → ℕ → Bool
+rootWord b first flat v w = cond (leb 1 v && leb v flat) (eqb (pageOf b w) (first + v) && eqb (rights w) allRights) (eqb w 0)
+
+abbrev pub rootWords : ℕ → ℕ → ℕ → ℕ → ℕ → ℕ → Bool
+rootWords b first flat v w y = eqb y 0 && rootWord b first flat v w

@@ -13,8 +13,6 @@ use pages::accessible;
 use pages::directory;
 use pages::has_rights;
 use pages::least;
-use pages::lent;
-use pages::mapping;
 use pages::page_of;
 use pages::page_words;
 use pages::parent;
@@ -24,6 +22,8 @@ use pages::rights;
 use pages::shadow1;
 use pages::shadow2;
 use pages::table_for;
+use pages::table_word;
+use pages::virtual_page;
 ghost use mathlib.Core.Path.{_≡_};
 ghost use mathlib.Core.Bool.{true, _||_};
 ghost use Prim.Native.Nat.{_+_, _-_, _≤_, _<_};
@@ -31,22 +31,41 @@ ghost use lib.Dec.{eqb};
 ghost use lib.ListN.{length, getD};
 ghost use Rattle.walk.specs.Finite.{from, all};
 ghost use Rattle.memory.specs.Geometry.{pageWords, address};
-ghost use Rattle.memory.specs.Words.{word};
-ghost use Rattle.memory.specs.Partition;
 ghost use Rattle.memory.specs.Counts.{tabled};
 ghost use Rattle.judging.specs.Quick;
 ghost use Rattle.judge.specs.Search.{seek};
 ghost use Rattle.judge.specs.Run.{run, asking};
-ghost use Rattle.judge.specs.Rows.{virtualPages, anyUsed, fromWords, lentWord, shadow1Word, cellWords};
+ghost use Rattle.judge.specs.Rows.{virtualPages, anyUsed, Lends, fromWords, lentWord, shadow1Word, cellWords};
 ghost use Rattle.pages.specs.Width.{Width};
 
-// "Every page mapped in a child is mapped in its parent at the shadow 2 address, same page, same accessible bit, no right added, and the parent's shadow
-// 1 names that child": p is the parent, v the child's address there.
-pub fn from_parent(b: u32, m: &[u32], p: PhysicalPage, v: u32, w: u32, y: u32) -> bool
+// A parent as the lender of its child's pages: its directory and shadow 1, and the child's address there.
+pub struct Lender {
+    pub directory: PhysicalPage,
+    pub shadow1: PhysicalPage,
+    pub child: u32,
+}
+
+// The lender of d's pages.
+pub fn lender_of(b: u32, m: &[u32], d: PhysicalPage) -> Lender
     requires { ⌜ Width b ⌝ }
-    ensures { λ r. ⌜ r ≡ fromWords b (now (m .entry)) (p .0) v w y ⌝ }
+    ensures { λ r. ⌜ Lends b (now (m .entry)) (d .0) (r .directory .0) (r .shadow1 .0) (r .child) ⌝ }
 {
-    let u = mapping(b, m, p, y);
+    let p = parent(b, m, d);
+    Lender {
+        directory: directory(b, m, p),
+        shadow1: shadow1(b, m, p),
+        child: read_word(b, m, d, 0),
+    }
+}
+
+// "Every page mapped in a child is mapped in its parent at the shadow 2 address, same page, same accessible bit, no right added, and the parent's shadow
+// 1 names that child"
+pub fn from_parent(b: u32, m: &[u32], p: Lender, w: u32, y: u32) -> bool
+    requires { ⌜ Width b ⌝ }
+    ensures { λ r. ⌜ r ≡ fromWords b (now (m .entry)) (p .directory .0) (p .shadow1 .0) (p .child) w y ⌝ }
+{
+    let v = virtual_page(b, y);
+    let u = table_word(b, m, p.directory, v);
     if u == 0 {
         return false;
     }
@@ -59,22 +78,18 @@ pub fn from_parent(b: u32, m: &[u32], p: PhysicalPage, v: u32, w: u32, y: u32) -
     if !has_rights(rights(w), u) {
         return false;
     }
-    lent(b, m, p, y) == v
+    table_word(b, m, p.shadow1, v) == p.child
 }
 
 // A mapping of the root comes from no other partition.
-pub fn origin(b: u32, m: &[u32], d: PhysicalPage, w: u32, y: u32) -> bool
+pub fn origin(b: u32, m: &[u32], d: PhysicalPage, p: Lender, w: u32, y: u32) -> bool
     requires { ⌜ Width b ⌝ }
-    ensures { λ r.
-        ⌜
-        r
-        ≡ (eqb (d .0) 1 || fromWords b (now (m .entry)) (Partition.parent b (now (m .entry)) (d .0)) (word b (now (m .entry)) (d .0) 0) w y)
-        ⌝ }
+    ensures { λ r. ⌜ r ≡ (eqb (d .0) 1 || fromWords b (now (m .entry)) (p .directory .0) (p .shadow1 .0) (p .child) w y) ⌝ }
 {
     if d.0 == 1 {
         return true;
     }
-    from_parent(b, m, parent(b, m, d), read_word(b, m, d, 0), w, y)
+    from_parent(b, m, p, w, y)
 }
 
 // "the virtual address of the child's descriptor if the page is lent"
@@ -107,9 +122,19 @@ pub fn shadow1_word(b: u32, m: &[u32], d: PhysicalPage, v: VirtualPage, w: u32, 
 }
 
 // "An absent mapping has 0 in all three table words."
-pub fn cell(b: u32, m: &[u32], d: PhysicalPage, v: VirtualPage, w: u32, x: u32, y: u32) -> bool
+pub fn cell(
+    b: u32,
+    m: &[u32],
+    d: PhysicalPage,
+    p: Lender,
+    v: VirtualPage,
+    w: u32,
+    x: u32,
+    y: u32,
+) -> bool
     requires { ⌜ Width b ⌝ }
     requires page { ⌜ v .0 < virtualPages b ⌝ }
+    requires lender { ⌜ Lends b (now m) (d .0) (p .directory .0) (p .shadow1 .0) (p .child) ⌝ }
     ensures { λ r. ⌜ r ≡ cellWords b (now (m .entry)) (d .0) (address b (v .0)) w x y ⌝ }
 {
     if w == 0 {
@@ -127,7 +152,7 @@ pub fn cell(b: u32, m: &[u32], d: PhysicalPage, v: VirtualPage, w: u32, x: u32, 
     if !shadow1_word(b, m, d, v, w, x) {
         return false;
     }
-    origin(b, m, d, w, y)
+    origin(b, m, d, p, w, y)
 }
 
 // The first place from i on, below n, at which one of the three words is not 0.
@@ -156,6 +181,7 @@ pub fn cells_row(
     b: u32,
     m: &[u32],
     d: PhysicalPage,
+    p: Lender,
     v: VirtualPage,
     pt: &[u32],
     s1: &[u32],
@@ -163,6 +189,7 @@ pub fn cells_row(
 ) -> bool
     requires { ⌜ Width b ⌝ }
     requires row { ⌜ v .0 + pageWords b ≤ virtualPages b ⌝ }
+    requires lender { ⌜ Lends b (now m) (d .0) (p .directory .0) (p .shadow1 .0) (p .child) ⌝ }
     ensures { λ r.
         ⌜
         r
@@ -177,6 +204,7 @@ pub fn cells_row(
             b,
             m,
             d,
+            p,
             VirtualPage(v.0 + (j as u32)),
             read(pt, j),
             read(s1, j),
@@ -194,6 +222,7 @@ pub fn cells_test(b: u32, m: &[u32], d: PhysicalPage) -> bool
     requires { ⌜ Width b ⌝ }
     ensures { λ r. ⌜ r ≡ all (Quick.cell b (now (m .entry)) (d .0)) (tabled b (now (m .entry)) (d .0)) ⌝ }
 {
+    let p = lender_of(b, m, d);
     let dir = words_of(b, m, directory(b, m, d));
     let sh1 = words_of(b, m, shadow1(b, m, d));
     let sh2 = words_of(b, m, shadow2(b, m, d));
@@ -202,7 +231,16 @@ pub fn cells_test(b: u32, m: &[u32], d: PhysicalPage) -> bool
         let pt = table_of(b, m, dir[i]);
         let s1 = table_of(b, m, read(sh1, i));
         let s2 = table_of(b, m, read(sh2, i));
-        if !cells_row(b, m, d, VirtualPage((i as u32) * page_words(b)), pt, s1, s2) {
+        if !cells_row(
+            b,
+            m,
+            d,
+            p,
+            VirtualPage((i as u32) * page_words(b)),
+            pt,
+            s1,
+            s2,
+        ) {
             return false;
         }
         i = next_word(dir, i + 1);

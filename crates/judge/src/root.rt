@@ -2,18 +2,21 @@
 use crate::rows::next_word;
 use crate::rows::table_of;
 use crate::rows::words_of;
-use forms::root_mapping;
+use forms::formatted::flat_pages;
+use forms::formatted::threes_for;
 use forms::root_pages;
 use pages::PhysicalPage;
 use pages::VirtualPage;
 use pages::directory;
+use pages::page_of;
 use pages::page_words;
 use pages::pages;
 use pages::read;
+use pages::rights;
 use pages::shadow2;
 ghost use mathlib.Core.Path.{_≡_};
 ghost use mathlib.Core.Bool.{true};
-ghost use Prim.Native.Nat.{_+_, _≤_};
+ghost use Prim.Native.Nat.{_+_, _≤_, _<_};
 ghost use lib.ListN.{getD};
 ghost use Rattle.walk.specs.Finite.{from, all};
 ghost use Rattle.memory.specs.Geometry.{pageWords};
@@ -23,25 +26,36 @@ ghost use Rattle.judge.specs.Run.{run, asking};
 ghost use Rattle.judge.specs.Rows.{virtualPages, rootWords};
 ghost use Rattle.pages.specs.Width.{Width};
 
-// The root's words at virtual page v, in a memory of n pages.
-pub fn root_cell(b: u32, n: u32, v: VirtualPage, w: u32, y: u32) -> bool
+// The root's words at virtual page v: "it maps exactly the flat pages, with all rights". They are `flat` pages, the first at page first + 1.
+pub fn root_cell(b: u32, first: u32, flat: u32, v: VirtualPage, w: u32, y: u32) -> bool
     requires { ⌜ Width b ⌝ }
-    ensures { λ r. ⌜ r ≡ rootWords b n (v .0) w y ⌝ }
+    requires page { ⌜ first + v .0 < 4294967296 ⌝ }
+    ensures { λ r. ⌜ r ≡ rootWords b first flat (v .0) w y ⌝ }
 {
-    if !root_mapping(b, n, v, w) {
+    if y != 0 {
         return false;
     }
-    y == 0
+    if v.0 == 0 {
+        return w == 0;
+    }
+    if flat < v.0 {
+        return w == 0;
+    }
+    if page_of(b, w).0 != first + v.0 {
+        return false;
+    }
+    rights(w) == 7
 }
 
 // A row of the root, from virtual page v on.
-pub fn root_row(b: u32, n: u32, v: VirtualPage, pt: &[u32], s2: &[u32]) -> bool
+pub fn root_row(b: u32, first: u32, flat: u32, v: VirtualPage, pt: &[u32], s2: &[u32]) -> bool
     requires { ⌜ Width b ⌝ }
     requires row { ⌜ v .0 + pageWords b ≤ virtualPages b ⌝ }
+    requires page { ⌜ first + virtualPages b ≤ 4294967296 ⌝ }
     ensures { λ r.
         ⌜
         r
-        ≡ run (asking (λ j. rootWords b n (v .0 + j) (getD (now (pt .entry)) j 0) (getD (now (s2 .entry)) j 0))) true (from (pageWords b) 0)
+        ≡ run (asking (λ j. rootWords b first flat (v .0 + j) (getD (now (pt .entry)) j 0) (getD (now (s2 .entry)) j 0))) true (from (pageWords b) 0)
         ⌝ }
 {
     let end = page_words(b);
@@ -49,7 +63,8 @@ pub fn root_row(b: u32, n: u32, v: VirtualPage, pt: &[u32], s2: &[u32]) -> bool
     while j < end {
         if !root_cell(
             b,
-            n,
+            first,
+            flat,
             VirtualPage(v.0 + j),
             read(pt, j as usize),
             read(s2, j as usize),
@@ -67,13 +82,22 @@ pub fn root_map(b: u32, m: &[u32]) -> bool
     ensures { λ r. ⌜ r ≡ all (rootMapTest b (now (m .entry))) (tabled b (now (m .entry)) 1) ⌝ }
 {
     let n = pages(b, m);
+    let first = 5 + 3 * threes_for(b, n);
+    let flat = flat_pages(b, n);
     let dir = words_of(b, m, directory(b, m, PhysicalPage(1)));
     let sh2 = words_of(b, m, shadow2(b, m, PhysicalPage(1)));
     let mut i = next_word(dir, 0);
     while i < dir.len() {
         let pt = table_of(b, m, dir[i]);
         let s2 = table_of(b, m, read(sh2, i));
-        if !root_row(b, n, VirtualPage((i as u32) * page_words(b)), pt, s2) {
+        if !root_row(
+            b,
+            first,
+            flat,
+            VirtualPage((i as u32) * page_words(b)),
+            pt,
+            s2,
+        ) {
             return false;
         }
         i = next_word(dir, i + 1);

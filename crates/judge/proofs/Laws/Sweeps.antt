@@ -1,7 +1,7 @@
 -- The sweeps over the tables of a partition d: what each comes to as a run over its addresses, and at a row by the words of its tables. Assumes nothing.
 use mathlib.Core.Path.{_≡_, refl, sym, ap, _∙_}
 use mathlib.Core.List.{List}
-use mathlib.Core.Bool.{Bool, true, false, cond, not, _&&_, _||_, false≢true}
+use mathlib.Core.Bool.{Bool, true, false, cond, not, _&&_, _||_, false≢true, and-comm}
 use mathlib.Core.Logic.{_≢_}
 use mathlib.Core.Option.{Option, some}
 use Prim.Native.Nat.{ℕ, zero, suc, _+_, _-_, _*_, _≤_, _<_}
@@ -11,7 +11,7 @@ use lib.ListN.{length, getD, List·getD-eq-default}
 use borrow.Author.Tests.{eq-eqb, ne-eqb}
 use Rattle.walk.specs.Finite.{from, all}
 use Rattle.walk.specs.Marks.{Seen, each, mark, marks}
-use Rattle.memory.specs.Geometry.{pageWords, address, pageOf}
+use Rattle.memory.specs.Geometry.{pageWords, address, pageOf, threesFor, flatPages}
 use Rattle.memory.specs.Words.{word, page}
 use Rattle.memory.specs.Partition.{pages, directory, shadow1, shadow2, parent, threes, mapping, lent, above, inHand}
 use Rattle.memory.specs.Counts.{row, tabled, childAt, childOf, children, handAddresses}
@@ -20,7 +20,7 @@ use Rattle.soundness.specs.Test.{virtual, rootMapTest, fromParent, handPages}
 use Rattle.judging.specs.Quick.{entryTest, childCell, lentCell, shadow1Cell, cell, shutCell, shutCount, dueCount, lentCount, mappedCount}
 use Rattle.judge.specs.Search.{seek}
 use Rattle.judge.specs.Run.{run, adding, asking, marking, bit}
-use Rattle.judge.specs.Rows.{table, used, anyUsed, childWords, shutWords, handWords, dueWords, fromWords, shadow1Word, cellWords, rootWords}
+use Rattle.judge.specs.Rows.{table, used, anyUsed, childWords, shutWords, handWords, dueWords, Lends, fromWords, shadow1Word, cellWords, rootWord, rootWords}
 use Rattle.judge.proofs.Laws.Run.{run-skip, run-end, sum-on, length-run, sums-run, all-run, each-run}
 use Rattle.judge.proofs.Laws.Search.{sought}
 use Rattle.judge.proofs.Laws.Rows.{cell-at, row-run, rows-short}
@@ -89,7 +89,7 @@ cells-on b m d v r s t k n i {j} e =
     (λ x a l. empty (eqb (getD r x 0) 0) (eqb (getD s x 0) 0) (eqb (getD t x 0) 0) x (q .passed x a l))
   where
     empty : (f g h : Bool) (x : ℕ) → not (f && g && h) ≡ false
-        → cond f (g && h) (entryTest b m (getD r x 0) && virtual b (getD t x 0) && shadow1Word b m d (address b (v + x)) (getD r x 0) (getD s x 0) && (eqb d 1 || fromWords b m (parent b m d) (word b m d 0) (getD r x 0) (getD t x 0))) ≡ true
+        → cond f (g && h) (entryTest b m (getD r x 0) && virtual b (getD t x 0) && shadow1Word b m d (address b (v + x)) (getD r x 0) (getD s x 0) && (eqb d 1 || fromWords b m (directory b m (parent b m d)) (shadow1 b m (parent b m d)) (word b m d 0) (getD r x 0) (getD t x 0))) ≡ true
     empty true true true x z = refl
     empty true true false x z = absurd (false≢true (sym z))
     empty true false h x z = absurd (false≢true (sym z))
@@ -100,8 +100,13 @@ pub cell-words : (b : ℕ) (m : List ℕ) (d v : ℕ) {w x y w′ x′ y′ : �
 cell-words b m d v {w} {x} {y} {w′} {x′} {y′} e f g =
     ap (λ (z : ℕ). cellWords b m d v z x y) e ∙ ap (λ (z : ℕ). cellWords b m d v w′ z y) f ∙ ap (λ (z : ℕ). cellWords b m d v w′ x′ z) g
 
-pub root-words : (b n v : ℕ) {w y w′ y′ : ℕ} → w ≡ w′ → y ≡ y′ → rootWords b n v w y ≡ rootWords b n v w′ y′
-root-words b n v {w} {y} {w′} {y′} e f = ap (λ (x : ℕ). rootWords b n v x y) e ∙ ap (λ (x : ℕ). rootWords b n v w′ x) f
+-- the lender that the code looked up
+pub from-lender : (b : ℕ) (m : List ℕ) (d w y : ℕ) {dir sh1 v : ℕ} → Lends b m d dir sh1 v
+    → fromWords b m dir sh1 v w y ≡ fromWords b m (directory b m (parent b m d)) (shadow1 b m (parent b m d)) (word b m d 0) w y
+from-lender b m d w y (e, f, g) = rw (e, f, g)
+
+pub root-words : (b first flat v : ℕ) {w y w′ y′ : ℕ} → w ≡ w′ → y ≡ y′ → rootWords b first flat v w y ≡ rootWords b first flat v w′ y′
+root-words b first flat v {w} {y} {w′} {y′} e f = ap (λ (x : ℕ). rootWords b first flat v x y) e ∙ ap (λ (x : ℕ). rootWords b first flat v w′ x) f
 
 -- ---- a place of a row whose page table word is 0 changes nothing
 
@@ -248,16 +253,24 @@ module _ (b : ℕ) (m : List ℕ) (d : ℕ) where
 
 module _ (b : ℕ) (m : List ℕ) (i : ℕ) {dir pt s2 sh2 : List ℕ} {y : ℕ} (e : dir ≡ page b m (directory b m 1)) (h : i < length dir) (n : used dir i ≡ true) (ep : pt ≡ table b m (getD dir i 0))
     (e2 : sh2 ≡ page b m (shadow2 b m 1)) (ey : y ≡ getD sh2 i 0) (et : s2 ≡ table b m y) where
-  root-same : (j : ℕ) → j < pageWords b → rootMapTest b m (address b (i * pageWords b + j)) ≡ rootWords b (pages b m) (i * pageWords b + j) (getD pt j 0) (getD s2 j 0)
-  unfolding rootMapTest
-  root-same j l =
-      ap (λ (k : ℕ). rootWords b (pages b m) k (mapping b m 1 (address b (i * pageWords b + j))) (above b m 1 (address b (i * pageWords b + j)))) (page-address b (i * pageWords b + j))
-      ∙ ap (λ (w : ℕ). rootWords b (pages b m) (i * pageWords b + j) w (above b m 1 (address b (i * pageWords b + j)))) (w-at b m 1 i e h n ep j l)
-      ∙ ap (λ (z : ℕ). rootWords b (pages b m) (i * pageWords b + j) (getD pt j 0) z) (y-at b m 1 i e h n ep e2 ey et j l)
+  abbrev rootAt : ℕ → ℕ → ℕ → Bool
+  rootAt = rootWords b (5 + 3 * threesFor b (pages b m)) (flatPages b (pages b m))
 
-  pub root-row : {r : Bool} {v p : ℕ} → v ≡ i * pageWords b → p ≡ pages b m
-      → r ≡ run (asking (λ j. rootWords b p (v + j) (getD pt j 0) (getD s2 j 0))) true (from (pageWords b) 0) → r ≡ run (asking (rootMapTest b m)) true (row b m 1 i)
-  root-row {v = v} q f g =
-      g ∙ ap (λ (k : ℕ). run (asking (λ j. rootWords b k (v + j) (getD pt j 0) (getD s2 j 0))) true (from (pageWords b) 0)) f
-      ∙ ap (λ (k : ℕ). run (asking (λ j. rootWords b (pages b m) (k + j) (getD pt j 0) (getD s2 j 0))) true (from (pageWords b) 0)) q
-      ∙ sym (row-run b m (asking (rootMapTest b m)) 1 dir e (asking (λ j. rootWords b (pages b m) (i * pageWords b + j) (getD pt j 0) (getD s2 j 0))) i true h n (λ j l t. ap (λ (k : Bool). t && k) (root-same j l)))
+  root-is : (v : ℕ) → rootMapTest b m v ≡ rootAt (pageOf b v) (mapping b m 1 v) (above b m 1 v)
+  unfolding rootMapTest
+  root-is v = and-comm (rootWord b (5 + 3 * threesFor b (pages b m)) (flatPages b (pages b m)) (pageOf b v) (mapping b m 1 v)) (eqb (above b m 1 v) 0)
+
+  root-same : (j : ℕ) → j < pageWords b → rootMapTest b m (address b (i * pageWords b + j)) ≡ rootAt (i * pageWords b + j) (getD pt j 0) (getD s2 j 0)
+  root-same j l =
+      root-is (address b (i * pageWords b + j))
+      ∙ ap (λ (k : ℕ). rootAt k (mapping b m 1 (address b (i * pageWords b + j))) (above b m 1 (address b (i * pageWords b + j)))) (page-address b (i * pageWords b + j))
+      ∙ ap (λ (w : ℕ). rootAt (i * pageWords b + j) w (above b m 1 (address b (i * pageWords b + j)))) (w-at b m 1 i e h n ep j l)
+      ∙ ap (λ (z : ℕ). rootAt (i * pageWords b + j) (getD pt j 0) z) (y-at b m 1 i e h n ep e2 ey et j l)
+
+  pub root-row : {r : Bool} {v p t f : ℕ} → v ≡ i * pageWords b → p ≡ pages b m → t ≡ threesFor b p → f ≡ flatPages b p
+      → r ≡ run (asking (λ j. rootWords b (5 + 3 * t) f (v + j) (getD pt j 0) (getD s2 j 0))) true (from (pageWords b) 0) → r ≡ run (asking (rootMapTest b m)) true (row b m 1 i)
+  root-row {v = v} {f = f} q eq er ef g =
+      g ∙ ap (λ (k : ℕ). run (asking (λ j. rootWords b (5 + 3 * k) f (v + j) (getD pt j 0) (getD s2 j 0))) true (from (pageWords b) 0)) (er ∙ ap (threesFor b) eq)
+      ∙ ap (λ (k : ℕ). run (asking (λ j. rootWords b (5 + 3 * threesFor b (pages b m)) k (v + j) (getD pt j 0) (getD s2 j 0))) true (from (pageWords b) 0)) (ef ∙ ap (flatPages b) eq)
+      ∙ ap (λ (k : ℕ). run (asking (λ j. rootAt (k + j) (getD pt j 0) (getD s2 j 0))) true (from (pageWords b) 0)) q
+      ∙ sym (row-run b m (asking (rootMapTest b m)) 1 dir e (asking (λ j. rootAt (i * pageWords b + j) (getD pt j 0) (getD s2 j 0))) i true h n (λ j l t. ap (λ (k : Bool). t && k) (root-same j l)))

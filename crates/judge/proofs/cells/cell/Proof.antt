@@ -1,5 +1,8 @@
 use Rattle.forms.proofs.Laws.Tests.{yes, no, unequal, equal}
-use mathlib.Core.Path.{refl}
+use mathlib.Core.Path.{refl, ap, _∙_}
+use mathlib.Core.Bool.{Bool, _||_}
+use lib.Dec.{eqb}
+use Rattle.judge.proofs.Laws.Sweeps.{from-lender}
 use borrow.Author.Needs.{needs}
 use Rattle.judge.proofs.cells.cell.Statement.{statement}
 use Rattle.judge.proofs.cells.cell.Tie as tie
@@ -42,7 +45,9 @@ origin-requires c κs = search needs
 
 -- src/cells.rt:110:1
 returns-6 : tie.Need-returns-6
-returns-6 c = rw (unequal refl refl (c .before .before .before .before .before .before .before .if1 .left), yes (c .before .before .before .before .before .before .entry-test .ensures) (c .before .before .before .before .before .if3 .left), yes (c .before .before .before .before .virtual-address .ensures) (c .before .before .before .if4 .left), yes (c .before .before .shadow1-word .ensures) (c .before .if5 .left)) (c .origin .ensures)
+returns-6 c =
+    let s = c .before .before .before .before .before .before .before .before .before .args in
+    rw (unequal refl refl (c .before .before .before .before .before .before .before .if1 .left), yes (c .before .before .before .before .before .before .entry-test .ensures) (c .before .before .before .before .before .if3 .left), yes (c .before .before .before .before .virtual-address .ensures) (c .before .before .before .if4 .left), yes (c .before .before .shadow1-word .ensures) (c .before .if5 .left)) (c .origin .ensures ∙ ap (λ (t : Bool). eqb (s .d .0) 1 || t) (from-lender (s .b) (s .m .now) (s .d .0) (s .w) (s .y) (c .before .before .before .before .before .before .before .before .before .pre .1 .1)))
 
 pub cell-spec : {M : Type 1} → statement M
 cell-spec =

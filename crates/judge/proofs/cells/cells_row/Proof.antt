@@ -16,10 +16,10 @@ use Rattle.judge.proofs.cells.cells_row.Statement.{statement}
 use Rattle.judge.proofs.cells.cells_row.Tie as tie
 
 abbrev Inv-loop : tie.InvT-loop
-Inv-loop b m d v pt s1 s2 n end j₀ j = run (asking (λ k. cellWords b m (d .0) (address b (v .0 + k)) (getD pt k 0) (getD s1 k 0) (getD s2 k 0))) true (from (pageWords b) 0) ≡ run (asking (λ k. cellWords b m (d .0) (address b (v .0 + k)) (getD pt k 0) (getD s1 k 0) (getD s2 k 0))) true (from (pageWords b - j) j)
+Inv-loop b m d p v pt s1 s2 n end j₀ j = run (asking (λ k. cellWords b m (d .0) (address b (v .0 + k)) (getD pt k 0) (getD s1 k 0) (getD s2 k 0))) true (from (pageWords b) 0) ≡ run (asking (λ k. cellWords b m (d .0) (address b (v .0 + k)) (getD pt k 0) (getD s1 k 0) (getD s2 k 0))) true (from (pageWords b - j) j)
 
 abbrev μ-loop : tie.MeasureT-loop
-μ-loop b m d v pt s1 s2 n end j₀ j = pageWords b - j
+μ-loop b m d p v pt s1 s2 n end j₀ j = pageWords b - j
 
 -- src/cells.rt:164:29
 least-requires : tie.Need-least-requires Inv-loop μ-loop
@@ -48,12 +48,12 @@ loop-holds c =
     run-start (asking (λ k. cellWords (s .b) (s .m .now) (s .d .0) (address (s .b) (s .v .0 + k)) (getD (s .pt .now) k 0) (getD (s .s1 .now) k 0) (getD (s .s2 .now) k 0))) (pageWords (s .b)) true ∙ cells-on (s .b) (s .m .now) (s .d .0) (s .v .0) (s .pt .now) (s .s1 .now) (s .s2 .now) (pageWords (s .b)) (c .before .before .least2 .result) 0 (c .next-cell .ensures)
 
 -- src/cells.rt:168:46
-cast-t17 : tie.Need-cast-t17 Inv-loop μ-loop
-cast-t17 c = search needs
+cast-t18 : tie.Need-cast-t18 Inv-loop μ-loop
+cast-t18 c = search needs
 
 -- src/cells.rt:168:39
-add-t18 : tie.Need-add-t18 Inv-loop μ-loop
-add-t18 c = omega (arith, c .before .before .before .before .before .before .before .before .before .before .before .pre .1, most-pages (c .before .before .before .before .before .before .before .before .before .before .before .args .b) (c .before .before .before .before .before .before .before .before .before .before .before .pre .0 .1), c .before .before .before .before .page-words .ensures .0)
+add-t19 : tie.Need-add-t19 Inv-loop μ-loop
+add-t19 c = omega (arith, c .before .before .before .before .before .before .before .before .before .before .before .pre .1 .0, most-pages (c .before .before .before .before .before .before .before .before .before .before .before .args .b) (c .before .before .before .before .before .before .before .before .before .before .before .pre .0 .1), c .before .before .before .before .page-words .ensures .0)
 
 -- src/cells.rt:168:58
 read-requires : tie.Need-read-requires Inv-loop μ-loop
@@ -69,7 +69,7 @@ read-requires-3 c κs = search needs
 
 -- src/cells.rt:168:13
 cell-requires : tie.Need-cell-requires Inv-loop μ-loop
-cell-requires c κs = search needs
+cell-requires c κs = (c .before .before .before .before .before .before .before .before .before .before .before .before .before .before .pre .0, (omega (arith, c .before .before .before .before .before .before .before .before .before .before .before .before .before .before .pre .1 .0, c .before .before .before .before .before .before .before .page-words .ensures .0), c .before .before .before .before .before .before .before .before .before .before .before .before .before .before .pre .1 .1))
 
 -- src/cells.rt:169:13
 returns : tie.Need-returns Inv-loop μ-loop
@@ -114,8 +114,8 @@ cells-row-spec =
     cast-end
     next-cell-requires
     loop-holds
-    cast-t17
-    add-t18
+    cast-t18
+    add-t19
     read-requires
     read-requires-2
     read-requires-3

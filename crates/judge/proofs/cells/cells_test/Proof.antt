@@ -21,10 +21,14 @@ use Rattle.judge.proofs.cells.cells_test.Statement.{statement}
 use Rattle.judge.proofs.cells.cells_test.Tie as tie
 
 abbrev Inv-loop : tie.InvT-loop
-Inv-loop b m d dir sh1 sh2 i₀ i = (i ≤ length dir) × (i < length dir → used dir i ≡ true) × ((dir ≡ page b m (directory b m (d .0))) → all (cell b m (d .0)) (tabled b m (d .0)) ≡ run (rowStep b m (asking (cell b m (d .0))) (d .0)) true (from (pageWords b - i) i))
+Inv-loop b m d p dir sh1 sh2 i₀ i = (i ≤ length dir) × (i < length dir → used dir i ≡ true) × ((dir ≡ page b m (directory b m (d .0))) → all (cell b m (d .0)) (tabled b m (d .0)) ≡ run (rowStep b m (asking (cell b m (d .0))) (d .0)) true (from (pageWords b - i) i))
 
 abbrev μ-loop : tie.MeasureT-loop
-μ-loop b m d dir sh1 sh2 i₀ i = length dir - i
+μ-loop b m d p dir sh1 sh2 i₀ i = length dir - i
+
+-- src/cells.rt:225:9
+lender-of-requires : tie.Need-lender-of-requires Inv-loop μ-loop
+lender-of-requires c κs = search needs
 
 -- src/cells.rt:181:30
 directory-requires : tie.Need-directory-requires Inv-loop μ-loop
@@ -57,7 +61,7 @@ next-word-requires c κs = search needs
 -- src/cells.rt:185:5
 loop-holds : tie.Need-loop-holds Inv-loop μ-loop
 loop-holds c =
-    let s = c .before .before .before .before .before .before .before .before .args in
+    let s = c .before .before .before .before .before .before .before .before .before .args in
     let dir = c .before .before .before .before .before .words-of .result .now in
     (next-high (used dir) (length dir) 0 (omega arith) (c .next-word .ensures), next-here (used dir) (length dir) 0 (omega arith) (c .next-word .ensures), λ e. rows-first (s .b) (s .m .now) (asking (cell (s .b) (s .m .now) (s .d .0))) (s .d .0) dir e true (cells-run (s .b) (s .m .now) (s .d .0)) (c .next-word .ensures))
 
@@ -90,35 +94,35 @@ table-of-requires-3 : tie.Need-table-of-requires-3 Inv-loop μ-loop
 table-of-requires-3 c κs = search needs
 
 -- src/cells.rt:189:45
-cast-t15 : tie.Need-cast-t15 Inv-loop μ-loop
-cast-t15 c = omega (arith, dir-short (c .before .before .before .before .before .before .before .before .before .before .before .before .before .before .before .before .args .b) (c .before .before .before .before .before .before .before .before .before .before .before .before .before .before .before .before .args .m .now) (c .before .before .before .before .before .before .before .before .before .before .before .before .before .before .directory .result .0) (c .before .before .before .before .before .before .before .before .before .before .before .before .before .words-of .ensures), words-most (c .before .before .before .before .before .before .before .before .before .before .before .before .before .before .before .before .args .b) (c .before .before .before .before .before .before .before .before .before .before .before .before .before .before .before .before .pre .1), c .before .before .before .before .before .before .loop-test .taken)
+cast-t16 : tie.Need-cast-t16 Inv-loop μ-loop
+cast-t16 c = omega (arith, dir-short (c .before .before .before .before .before .before .before .before .before .before .before .before .before .before .before .before .before .args .b) (c .before .before .before .before .before .before .before .before .before .before .before .before .before .before .before .before .before .args .m .now) (c .before .before .before .before .before .before .before .before .before .before .before .before .before .before .directory .result .0) (c .before .before .before .before .before .before .before .before .before .before .before .before .before .words-of .ensures), words-most (c .before .before .before .before .before .before .before .before .before .before .before .before .before .before .before .before .before .args .b) (c .before .before .before .before .before .before .before .before .before .before .before .before .before .before .before .before .before .pre .1), c .before .before .before .before .before .before .loop-test .taken)
 
 -- src/cells.rt:189:57
 page-words-requires : tie.Need-page-words-requires Inv-loop μ-loop
-page-words-requires c κs = search needs
+page-words-requires c κs = c .before .before .before .before .before .before .before .before .before .before .before .before .before .before .before .before .before .pre
 
 -- src/cells.rt:189:44
-mul-t17 : tie.Need-mul-t17 Inv-loop μ-loop
-mul-t17 c =
-    let e : c .before .before .before .before .before .before .before .before .loop .i * c .page-words .result ≡ c .before .before .before .before .before .before .before .before .loop .i * pageWords (c .before .before .before .before .before .before .before .before .before .before .before .before .before .before .before .before .before .args .b) = rw (c .page-words .ensures .0) in
-    omega (arith, e, row-in (c .before .before .before .before .before .before .before .before .before .before .before .before .before .before .before .before .before .args .b) (c .before .before .before .before .before .before .before .before .loop .i) (omega (arith, c .before .before .before .before .before .before .before .loop-test .taken, dir-short (c .before .before .before .before .before .before .before .before .before .before .before .before .before .before .before .before .before .args .b) (c .before .before .before .before .before .before .before .before .before .before .before .before .before .before .before .before .before .args .m .now) (c .before .before .before .before .before .before .before .before .before .before .before .before .before .before .before .directory .result .0) (c .before .before .before .before .before .before .before .before .before .before .before .before .before .before .words-of .ensures))), most-pages (c .before .before .before .before .before .before .before .before .before .before .before .before .before .before .before .before .before .args .b) (c .before .before .before .before .before .before .before .before .before .before .before .before .before .before .before .before .before .pre .1))
+mul-t18 : tie.Need-mul-t18 Inv-loop μ-loop
+mul-t18 c =
+    let e : c .before .before .before .before .before .before .before .before .loop .i * c .page-words .result ≡ c .before .before .before .before .before .before .before .before .loop .i * pageWords (c .before .before .before .before .before .before .before .before .before .before .before .before .before .before .before .before .before .before .args .b) = rw (c .page-words .ensures .0) in
+    omega (arith, e, row-in (c .before .before .before .before .before .before .before .before .before .before .before .before .before .before .before .before .before .before .args .b) (c .before .before .before .before .before .before .before .before .loop .i) (omega (arith, c .before .before .before .before .before .before .before .loop-test .taken, dir-short (c .before .before .before .before .before .before .before .before .before .before .before .before .before .before .before .before .before .before .args .b) (c .before .before .before .before .before .before .before .before .before .before .before .before .before .before .before .before .before .before .args .m .now) (c .before .before .before .before .before .before .before .before .before .before .before .before .before .before .before .directory .result .0) (c .before .before .before .before .before .before .before .before .before .before .before .before .before .before .words-of .ensures))), most-pages (c .before .before .before .before .before .before .before .before .before .before .before .before .before .before .before .before .before .before .args .b) (c .before .before .before .before .before .before .before .before .before .before .before .before .before .before .before .before .before .before .pre .1))
 
 -- src/cells.rt:189:13
 cells-row-requires : tie.Need-cells-row-requires Inv-loop μ-loop
 cells-row-requires c κs =
-    let e : c .before .before .before .before .before .before .before .before .loop .i * c .page-words .result ≡ c .before .before .before .before .before .before .before .before .loop .i * pageWords (c .before .before .before .before .before .before .before .before .before .before .before .before .before .before .before .before .before .args .b) = rw (c .page-words .ensures .0) in
-    (c .before .before .before .before .before .before .before .before .before .before .before .before .before .before .before .before .before .pre, omega (arith, e, row-in (c .before .before .before .before .before .before .before .before .before .before .before .before .before .before .before .before .before .args .b) (c .before .before .before .before .before .before .before .before .loop .i) (omega (arith, c .before .before .before .before .before .before .before .loop-test .taken, dir-short (c .before .before .before .before .before .before .before .before .before .before .before .before .before .before .before .before .before .args .b) (c .before .before .before .before .before .before .before .before .before .before .before .before .before .before .before .before .before .args .m .now) (c .before .before .before .before .before .before .before .before .before .before .before .before .before .before .before .directory .result .0) (c .before .before .before .before .before .before .before .before .before .before .before .before .before .before .words-of .ensures)))))
+    let e : c .before .before .before .before .before .before .before .before .loop .i * c .page-words .result ≡ c .before .before .before .before .before .before .before .before .loop .i * pageWords (c .before .before .before .before .before .before .before .before .before .before .before .before .before .before .before .before .before .before .args .b) = rw (c .page-words .ensures .0) in
+    (c .before .before .before .before .before .before .before .before .before .before .before .before .before .before .before .before .before .before .pre, (omega (arith, e, row-in (c .before .before .before .before .before .before .before .before .before .before .before .before .before .before .before .before .before .before .args .b) (c .before .before .before .before .before .before .before .before .loop .i) (omega (arith, c .before .before .before .before .before .before .before .loop-test .taken, dir-short (c .before .before .before .before .before .before .before .before .before .before .before .before .before .before .before .before .before .before .args .b) (c .before .before .before .before .before .before .before .before .before .before .before .before .before .before .before .before .before .before .args .m .now) (c .before .before .before .before .before .before .before .before .before .before .before .before .before .before .before .directory .result .0) (c .before .before .before .before .before .before .before .before .before .before .before .before .before .before .words-of .ensures)))), c .before .before .before .before .before .before .before .before .before .before .before .before .before .before .before .before .lender-of .ensures))
 
 -- src/cells.rt:190:13
 returns : tie.Need-returns Inv-loop μ-loop
 returns c =
-    let s = c .before .before .before .before .before .before .before .before .before .before .before .before .before .before .before .before .before .before .before .args in
+    let s = c .before .before .before .before .before .before .before .before .before .before .before .before .before .before .before .before .before .before .before .before .args in
     let e = c .before .before .before .before .before .before .before .before .before .before .before .before .before .before .before .before .words-of .ensures ∙ ap (page (s .b) (s .m .now)) (c .before .before .before .before .before .before .before .before .before .before .before .before .before .before .before .before .before .directory .ensures) in
     asks-stop (s .b) (s .m .now) (cell (s .b) (s .m .now) (s .d .0)) (s .d .0) (c .before .before .before .before .before .before .before .before .before .before .before .before .before .before .before .before .words-of .result .now) e (c .before .before .before .before .before .before .before .before .before .loop-test .taken) (cells-row (s .b) (s .m .now) (s .d .0) (c .before .before .before .before .before .before .before .before .before .before .loop .i) e (c .before .before .before .before .before .before .before .before .before .loop-test .taken) (c .before .before .before .before .before .before .before .before .before .before .loop .inv .1 (c .before .before .before .before .before .before .before .before .before .loop-test .taken)) (c .before .before .before .before .before .before .before .table-of .ensures) (c .before .before .before .before .before .before .before .before .before .before .before .before .before .before .words-of2 .ensures ∙ ap (page (s .b) (s .m .now)) (c .before .before .before .before .before .before .before .before .before .before .before .before .before .before .before .shadow1 .ensures)) (c .before .before .before .before .before .before .read .ensures) (c .before .before .before .before .before .table-of2 .ensures) (c .before .before .before .before .before .before .before .before .before .before .before .before .words-of3 .ensures ∙ ap (page (s .b) (s .m .now)) (c .before .before .before .before .before .before .before .before .before .before .before .before .before .shadow2 .ensures)) (c .before .before .before .before .read2 .ensures) (c .before .before .before .table-of3 .ensures) (ap (λ (x : ℕ). c .before .before .before .before .before .before .before .before .before .before .loop .i * x) (c .before .before .page-words .ensures .0)) (c .before .cells-row .ensures)) (c .if1 .taken) (c .before .before .before .before .before .before .before .before .before .before .loop .inv .2 e)
 
 -- src/cells.rt:192:28
 add-next-word : tie.Need-add-next-word Inv-loop μ-loop
-add-next-word c = omega (arith, dir-short (c .before .before .before .before .before .before .before .before .before .before .before .before .before .before .before .before .before .before .before .args .b) (c .before .before .before .before .before .before .before .before .before .before .before .before .before .before .before .before .before .before .before .args .m .now) (c .before .before .before .before .before .before .before .before .before .before .before .before .before .before .before .before .before .directory .result .0) (c .before .before .before .before .before .before .before .before .before .before .before .before .before .before .before .before .words-of .ensures), words-most (c .before .before .before .before .before .before .before .before .before .before .before .before .before .before .before .before .before .before .before .args .b) (c .before .before .before .before .before .before .before .before .before .before .before .before .before .before .before .before .before .before .before .pre .1), c .before .before .before .before .before .before .before .before .before .loop-test .taken)
+add-next-word c = omega (arith, dir-short (c .before .before .before .before .before .before .before .before .before .before .before .before .before .before .before .before .before .before .before .before .args .b) (c .before .before .before .before .before .before .before .before .before .before .before .before .before .before .before .before .before .before .before .before .args .m .now) (c .before .before .before .before .before .before .before .before .before .before .before .before .before .before .before .before .before .directory .result .0) (c .before .before .before .before .before .before .before .before .before .before .before .before .before .before .before .before .words-of .ensures), words-most (c .before .before .before .before .before .before .before .before .before .before .before .before .before .before .before .before .before .before .before .before .args .b) (c .before .before .before .before .before .before .before .before .before .before .before .before .before .before .before .before .before .before .before .before .pre .1), c .before .before .before .before .before .before .before .before .before .loop-test .taken)
 
 -- src/cells.rt:192:9
 next-word-requires-2 : tie.Need-next-word-requires-2 Inv-loop μ-loop
@@ -131,14 +135,14 @@ loop-less c = omega (arith, c .before .before .before .before .before .before .b
 -- src/cells.rt:185:5
 loop-again : tie.Need-loop-again Inv-loop μ-loop
 loop-again c =
-    let s = c .before .before .before .before .before .before .before .before .before .before .before .before .before .before .before .before .before .before .before .before .args in
+    let s = c .before .before .before .before .before .before .before .before .before .before .before .before .before .before .before .before .before .before .before .before .before .args in
     let dir = c .before .before .before .before .before .before .before .before .before .before .before .before .before .before .before .before .before .words-of .result .now in
     (next-high (used dir) (length dir) (c .before .before .before .before .before .before .before .before .before .before .before .loop .i + 1) (omega (arith, c .before .before .before .before .before .before .before .before .before .before .loop-test .taken)) (c .next-word2 .ensures), next-here (used dir) (length dir) (c .before .before .before .before .before .before .before .before .before .before .before .loop .i + 1) (omega (arith, c .before .before .before .before .before .before .before .before .before .before .loop-test .taken)) (c .next-word2 .ensures), λ e. asks-next (s .b) (s .m .now) (cell (s .b) (s .m .now) (s .d .0)) (s .d .0) dir e (c .before .before .before .before .before .before .before .before .before .before .loop-test .taken) (cells-row (s .b) (s .m .now) (s .d .0) (c .before .before .before .before .before .before .before .before .before .before .before .loop .i) e (c .before .before .before .before .before .before .before .before .before .before .loop-test .taken) (c .before .before .before .before .before .before .before .before .before .before .before .loop .inv .1 (c .before .before .before .before .before .before .before .before .before .before .loop-test .taken)) (c .before .before .before .before .before .before .before .before .table-of .ensures) (c .before .before .before .before .before .before .before .before .before .before .before .before .before .before .before .words-of2 .ensures ∙ ap (page (s .b) (s .m .now)) (c .before .before .before .before .before .before .before .before .before .before .before .before .before .before .before .before .shadow1 .ensures)) (c .before .before .before .before .before .before .before .read .ensures) (c .before .before .before .before .before .before .table-of2 .ensures) (c .before .before .before .before .before .before .before .before .before .before .before .before .before .words-of3 .ensures ∙ ap (page (s .b) (s .m .now)) (c .before .before .before .before .before .before .before .before .before .before .before .before .before .before .shadow2 .ensures)) (c .before .before .before .before .before .read2 .ensures) (c .before .before .before .before .table-of3 .ensures) (ap (λ (x : ℕ). c .before .before .before .before .before .before .before .before .before .before .before .loop .i * x) (c .before .before .before .page-words .ensures .0)) (c .before .before .cells-row .ensures)) (c .before .if1 .left) (c .next-word2 .ensures) (c .before .before .before .before .before .before .before .before .before .before .before .loop .inv .2 e))
 
 -- src/cells.rt:177:1
 returns-2 : tie.Need-returns-2 Inv-loop μ-loop
 returns-2 c =
-    let s = c .before .before .before .before .before .before .before .before .before .before .args in
+    let s = c .before .before .before .before .before .before .before .before .before .before .before .args in
     let e = c .before .before .before .before .before .before .before .words-of .ensures ∙ ap (page (s .b) (s .m .now)) (c .before .before .before .before .before .before .before .before .directory .ensures) in
     sym (rows-end (s .b) (s .m .now) (asking (cell (s .b) (s .m .now) (s .d .0))) (s .d .0) (c .before .before .before .before .before .before .before .words-of .result .now) e true (c .loop-test .left) (c .before .loop .inv .2 e))
 
@@ -148,6 +152,7 @@ cells-test-spec =
     (tie.spec
     Inv-loop
     μ-loop
+    lender-of-requires
     directory-requires
     words-of-requires
     shadow1-requires
@@ -163,9 +168,9 @@ cells-test-spec =
     table-of-requires-2
     read-requires-2
     table-of-requires-3
-    cast-t15
+    cast-t16
     page-words-requires
-    mul-t17
+    mul-t18
     cells-row-requires
     returns
     add-next-word

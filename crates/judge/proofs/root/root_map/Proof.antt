@@ -21,14 +21,30 @@ use Rattle.judge.proofs.root.root_map.Statement.{statement}
 use Rattle.judge.proofs.root.root_map.Tie as tie
 
 abbrev Inv-loop : tie.InvT-loop
-Inv-loop b m n dir sh2 i₀ i = (i ≤ length dir) × (i < length dir → used dir i ≡ true) × (all (rootMapTest b m) (tabled b m 1) ≡ run (rowStep b m (asking (rootMapTest b m)) 1) true (from (pageWords b - i) i))
+Inv-loop b m n first flat dir sh2 i₀ i = (i ≤ length dir) × (i < length dir → used dir i ≡ true) × (all (rootMapTest b m) (tabled b m 1) ≡ run (rowStep b m (asking (rootMapTest b m)) 1) true (from (pageWords b - i) i))
 
 abbrev μ-loop : tie.MeasureT-loop
-μ-loop b m n dir sh2 i₀ i = length dir - i
+μ-loop b m n first flat dir sh2 i₀ i = length dir - i
 
 -- src/root.rt:63:9
 pages-requires : tie.Need-pages-requires Inv-loop μ-loop
 pages-requires c κs = search needs
+
+-- src/root.rt:1:1
+threes-for-requires : tie.Need-threes-for-requires Inv-loop μ-loop
+threes-for-requires c κs = search needs
+
+-- src/root.rt:1:1
+mul-first : tie.Need-mul-first Inv-loop μ-loop
+mul-first c = search needs
+
+-- src/root.rt:1:1
+add-first : tie.Need-add-first Inv-loop μ-loop
+add-first c = search needs
+
+-- src/root.rt:1:1
+flat-pages-requires : tie.Need-flat-pages-requires Inv-loop μ-loop
+flat-pages-requires c κs = search needs
 
 -- src/root.rt:64:30
 directory-requires : tie.Need-directory-requires Inv-loop μ-loop
@@ -53,7 +69,7 @@ next-word-requires c κs = search needs
 -- src/root.rt:67:5
 loop-holds : tie.Need-loop-holds Inv-loop μ-loop
 loop-holds c =
-    let s = c .before .before .before .before .before .before .before .args in
+    let s = c .before .before .before .before .before .before .before .before .before .args in
     let dir = c .before .before .before .words-of .result .now in
     (next-high (used dir) (length dir) 0 (omega arith) (c .next-word .ensures), next-here (used dir) (length dir) 0 (omega arith) (c .next-word .ensures), rows-first (s .b) (s .m .now) (asking (rootMapTest (s .b) (s .m .now))) 1 dir (c .before .before .before .words-of .ensures ∙ ap (page (s .b) (s .m .now)) (c .before .before .before .before .directory .ensures)) true (root-run (s .b) (s .m .now) 1) (c .next-word .ensures))
 
@@ -78,31 +94,31 @@ table-of-requires-2 : tie.Need-table-of-requires-2 Inv-loop μ-loop
 table-of-requires-2 c κs = search needs
 
 -- src/root.rt:70:41
-cast-t14 : tie.Need-cast-t14 Inv-loop μ-loop
-cast-t14 c = omega (arith, dir-short (c .before .before .before .before .before .before .before .before .before .before .before .before .before .args .b) (c .before .before .before .before .before .before .before .before .before .before .before .before .before .args .m .now) (c .before .before .before .before .before .before .before .before .before .before .directory .result .0) (c .before .before .before .before .before .before .before .before .before .words-of .ensures), words-most (c .before .before .before .before .before .before .before .before .before .before .before .before .before .args .b) (c .before .before .before .before .before .before .before .before .before .before .before .before .before .pre .1))
+cast-t18 : tie.Need-cast-t18 Inv-loop μ-loop
+cast-t18 c = omega (arith, dir-short (c .before .before .before .before .before .before .before .before .before .before .before .before .before .before .before .args .b) (c .before .before .before .before .before .before .before .before .before .before .before .before .before .before .before .args .m .now) (c .before .before .before .before .before .before .before .before .before .before .directory .result .0) (c .before .before .before .before .before .before .before .before .before .words-of .ensures), words-most (c .before .before .before .before .before .before .before .before .before .before .before .before .before .before .before .args .b) (c .before .before .before .before .before .before .before .before .before .before .before .before .before .before .before .pre .1))
 
 -- src/root.rt:70:53
 page-words-requires : tie.Need-page-words-requires Inv-loop μ-loop
 page-words-requires c κs = search needs
 
 -- src/root.rt:70:40
-mul-t16 : tie.Need-mul-t16 Inv-loop μ-loop
-mul-t16 c =
-    let e : c .before .before .before .before .before .before .loop .i * c .page-words .result ≡ c .before .before .before .before .before .before .loop .i * pageWords (c .before .before .before .before .before .before .before .before .before .before .before .before .before .before .args .b) = rw (c .page-words .ensures .0) in
-    omega (arith, row-in (c .before .before .before .before .before .before .before .before .before .before .before .before .before .before .args .b) (c .before .before .before .before .before .before .loop .i) (omega (arith, dir-short (c .before .before .before .before .before .before .before .before .before .before .before .before .before .before .args .b) (c .before .before .before .before .before .before .before .before .before .before .before .before .before .before .args .m .now) (c .before .before .before .before .before .before .before .before .before .before .before .directory .result .0) (c .before .before .before .before .before .before .before .before .before .before .words-of .ensures))), most-pages (c .before .before .before .before .before .before .before .before .before .before .before .before .before .before .args .b) (c .before .before .before .before .before .before .before .before .before .before .before .before .before .before .pre .1))
+mul-t20 : tie.Need-mul-t20 Inv-loop μ-loop
+mul-t20 c =
+    let e : c .before .before .before .before .before .before .loop .i * c .page-words .result ≡ c .before .before .before .before .before .before .loop .i * pageWords (c .before .before .before .before .before .before .before .before .before .before .before .before .before .before .before .before .args .b) = rw (c .page-words .ensures .0) in
+    omega (arith, row-in (c .before .before .before .before .before .before .before .before .before .before .before .before .before .before .before .before .args .b) (c .before .before .before .before .before .before .loop .i) (omega (arith, dir-short (c .before .before .before .before .before .before .before .before .before .before .before .before .before .before .before .before .args .b) (c .before .before .before .before .before .before .before .before .before .before .before .before .before .before .before .before .args .m .now) (c .before .before .before .before .before .before .before .before .before .before .before .directory .result .0) (c .before .before .before .before .before .before .before .before .before .before .words-of .ensures))), most-pages (c .before .before .before .before .before .before .before .before .before .before .before .before .before .before .before .before .args .b) (c .before .before .before .before .before .before .before .before .before .before .before .before .before .before .before .before .pre .1))
 
 -- src/root.rt:70:13
 root-row-requires : tie.Need-root-row-requires Inv-loop μ-loop
 root-row-requires c κs =
-    let e : c .before .before .before .before .before .before .loop .i * c .page-words .result ≡ c .before .before .before .before .before .before .loop .i * pageWords (c .before .before .before .before .before .before .before .before .before .before .before .before .before .before .args .b) = rw (c .page-words .ensures .0) in
-    (c .before .before .before .before .before .before .before .before .before .before .before .before .before .before .pre, omega (arith, row-in (c .before .before .before .before .before .before .before .before .before .before .before .before .before .before .args .b) (c .before .before .before .before .before .before .loop .i) (omega (arith, dir-short (c .before .before .before .before .before .before .before .before .before .before .before .before .before .before .args .b) (c .before .before .before .before .before .before .before .before .before .before .before .before .before .before .args .m .now) (c .before .before .before .before .before .before .before .before .before .before .before .directory .result .0) (c .before .before .before .before .before .before .before .before .before .before .words-of .ensures)))))
+    let e : c .before .before .before .before .before .before .loop .i * c .page-words .result ≡ c .before .before .before .before .before .before .loop .i * pageWords (c .before .before .before .before .before .before .before .before .before .before .before .before .before .before .before .before .args .b) = rw (c .page-words .ensures .0) in
+    (c .before .before .before .before .before .before .before .before .before .before .before .before .before .before .before .before .pre, (omega (arith, row-in (c .before .before .before .before .before .before .before .before .before .before .before .before .before .before .before .before .args .b) (c .before .before .before .before .before .before .loop .i) (omega (arith, dir-short (c .before .before .before .before .before .before .before .before .before .before .before .before .before .before .before .before .args .b) (c .before .before .before .before .before .before .before .before .before .before .before .before .before .before .before .before .args .m .now) (c .before .before .before .before .before .before .before .before .before .before .before .directory .result .0) (c .before .before .before .before .before .before .before .before .before .before .words-of .ensures)))), omega (arith, c .before .before .before .before .before .before .before .before .before .before .before .before .before .threes-for .ensures .1, most-pages (c .before .before .before .before .before .before .before .before .before .before .before .before .before .before .before .before .args .b) (c .before .before .before .before .before .before .before .before .before .before .before .before .before .before .before .before .pre .1))))
 
 -- src/root.rt:71:13
 returns : tie.Need-returns Inv-loop μ-loop
 returns c =
-    let s = c .before .before .before .before .before .before .before .before .before .before .before .before .before .before .before .before .args in
+    let s = c .before .before .before .before .before .before .before .before .before .before .before .before .before .before .before .before .before .before .args in
     let e = c .before .before .before .before .before .before .before .before .before .before .before .before .words-of .ensures ∙ ap (page (s .b) (s .m .now)) (c .before .before .before .before .before .before .before .before .before .before .before .before .before .directory .ensures) in
-    asks-stop (s .b) (s .m .now) (rootMapTest (s .b) (s .m .now)) 1 (c .before .before .before .before .before .before .before .before .before .before .before .before .words-of .result .now) e (c .before .before .before .before .before .before .before .loop-test .taken) (root-row (s .b) (s .m .now) (c .before .before .before .before .before .before .before .before .loop .i) e (c .before .before .before .before .before .before .before .loop-test .taken) (c .before .before .before .before .before .before .before .before .loop .inv .1 (c .before .before .before .before .before .before .before .loop-test .taken)) (c .before .before .before .before .before .table-of .ensures) (c .before .before .before .before .before .before .before .before .before .before .words-of2 .ensures ∙ ap (page (s .b) (s .m .now)) (c .before .before .before .before .before .before .before .before .before .before .before .shadow2 .ensures)) (c .before .before .before .before .read .ensures) (c .before .before .before .table-of2 .ensures) (ap (λ (x : ℕ). c .before .before .before .before .before .before .before .before .loop .i * x) (c .before .before .page-words .ensures .0)) (c .before .before .before .before .before .before .before .before .before .before .before .before .before .before .pages .ensures) (c .before .root-row .ensures)) (c .if1 .taken) (c .before .before .before .before .before .before .before .before .loop .inv .2)
+    asks-stop (s .b) (s .m .now) (rootMapTest (s .b) (s .m .now)) 1 (c .before .before .before .before .before .before .before .before .before .before .before .before .words-of .result .now) e (c .before .before .before .before .before .before .before .loop-test .taken) (root-row (s .b) (s .m .now) (c .before .before .before .before .before .before .before .before .loop .i) e (c .before .before .before .before .before .before .before .loop-test .taken) (c .before .before .before .before .before .before .before .before .loop .inv .1 (c .before .before .before .before .before .before .before .loop-test .taken)) (c .before .before .before .before .before .table-of .ensures) (c .before .before .before .before .before .before .before .before .before .before .words-of2 .ensures ∙ ap (page (s .b) (s .m .now)) (c .before .before .before .before .before .before .before .before .before .before .before .shadow2 .ensures)) (c .before .before .before .before .read .ensures) (c .before .before .before .table-of2 .ensures) (ap (λ (x : ℕ). c .before .before .before .before .before .before .before .before .loop .i * x) (c .before .before .page-words .ensures .0)) (c .before .before .before .before .before .before .before .before .before .before .before .before .before .before .before .before .pages .ensures) (c .before .before .before .before .before .before .before .before .before .before .before .before .before .before .before .threes-for .ensures .0) (c .before .before .before .before .before .before .before .before .before .before .before .before .before .before .flat-pages .ensures) (c .before .root-row .ensures)) (c .if1 .taken) (c .before .before .before .before .before .before .before .before .loop .inv .2)
 
 -- src/root.rt:73:28
 add-next-word : tie.Need-add-next-word Inv-loop μ-loop
@@ -119,15 +135,15 @@ loop-less c = omega (arith, next-low (used (c .before .before .before .before .b
 -- src/root.rt:67:5
 loop-again : tie.Need-loop-again Inv-loop μ-loop
 loop-again c =
-    let s = c .before .before .before .before .before .before .before .before .before .before .before .before .before .before .before .before .before .args in
+    let s = c .before .before .before .before .before .before .before .before .before .before .before .before .before .before .before .before .before .before .before .args in
     let dir = c .before .before .before .before .before .before .before .before .before .before .before .before .before .words-of .result .now in
     let e = c .before .before .before .before .before .before .before .before .before .before .before .before .before .words-of .ensures ∙ ap (page (s .b) (s .m .now)) (c .before .before .before .before .before .before .before .before .before .before .before .before .before .before .directory .ensures) in
-    (next-high (used dir) (length dir) (c .before .before .before .before .before .before .before .before .before .loop .i + 1) (omega arith) (c .next-word2 .ensures), next-here (used dir) (length dir) (c .before .before .before .before .before .before .before .before .before .loop .i + 1) (omega arith) (c .next-word2 .ensures), asks-next (s .b) (s .m .now) (rootMapTest (s .b) (s .m .now)) 1 dir e (c .before .before .before .before .before .before .before .before .loop-test .taken) (root-row (s .b) (s .m .now) (c .before .before .before .before .before .before .before .before .before .loop .i) e (c .before .before .before .before .before .before .before .before .loop-test .taken) (c .before .before .before .before .before .before .before .before .before .loop .inv .1 (c .before .before .before .before .before .before .before .before .loop-test .taken)) (c .before .before .before .before .before .before .table-of .ensures) (c .before .before .before .before .before .before .before .before .before .before .before .words-of2 .ensures ∙ ap (page (s .b) (s .m .now)) (c .before .before .before .before .before .before .before .before .before .before .before .before .shadow2 .ensures)) (c .before .before .before .before .before .read .ensures) (c .before .before .before .before .table-of2 .ensures) (ap (λ (x : ℕ). c .before .before .before .before .before .before .before .before .before .loop .i * x) (c .before .before .before .page-words .ensures .0)) (c .before .before .before .before .before .before .before .before .before .before .before .before .before .before .before .pages .ensures) (c .before .before .root-row .ensures)) (c .before .if1 .left) (c .next-word2 .ensures) (c .before .before .before .before .before .before .before .before .before .loop .inv .2))
+    (next-high (used dir) (length dir) (c .before .before .before .before .before .before .before .before .before .loop .i + 1) (omega arith) (c .next-word2 .ensures), next-here (used dir) (length dir) (c .before .before .before .before .before .before .before .before .before .loop .i + 1) (omega arith) (c .next-word2 .ensures), asks-next (s .b) (s .m .now) (rootMapTest (s .b) (s .m .now)) 1 dir e (c .before .before .before .before .before .before .before .before .loop-test .taken) (root-row (s .b) (s .m .now) (c .before .before .before .before .before .before .before .before .before .loop .i) e (c .before .before .before .before .before .before .before .before .loop-test .taken) (c .before .before .before .before .before .before .before .before .before .loop .inv .1 (c .before .before .before .before .before .before .before .before .loop-test .taken)) (c .before .before .before .before .before .before .table-of .ensures) (c .before .before .before .before .before .before .before .before .before .before .before .words-of2 .ensures ∙ ap (page (s .b) (s .m .now)) (c .before .before .before .before .before .before .before .before .before .before .before .before .shadow2 .ensures)) (c .before .before .before .before .before .read .ensures) (c .before .before .before .before .table-of2 .ensures) (ap (λ (x : ℕ). c .before .before .before .before .before .before .before .before .before .loop .i * x) (c .before .before .before .page-words .ensures .0)) (c .before .before .before .before .before .before .before .before .before .before .before .before .before .before .before .before .before .pages .ensures) (c .before .before .before .before .before .before .before .before .before .before .before .before .before .before .before .before .threes-for .ensures .0) (c .before .before .before .before .before .before .before .before .before .before .before .before .before .before .before .flat-pages .ensures) (c .before .before .root-row .ensures)) (c .before .if1 .left) (c .next-word2 .ensures) (c .before .before .before .before .before .before .before .before .before .loop .inv .2))
 
 -- src/root.rt:59:1
 returns-2 : tie.Need-returns-2 Inv-loop μ-loop
 returns-2 c =
-    let s = c .before .before .before .before .before .before .before .before .before .args in
+    let s = c .before .before .before .before .before .before .before .before .before .before .before .args in
     sym (rows-end (s .b) (s .m .now) (asking (rootMapTest (s .b) (s .m .now))) 1 (c .before .before .before .before .before .words-of .result .now) (c .before .before .before .before .before .words-of .ensures ∙ ap (page (s .b) (s .m .now)) (c .before .before .before .before .before .before .directory .ensures)) true (c .loop-test .left) (c .before .loop .inv .2))
 
 pub root-map-spec : {M : Type 1} → statement M
@@ -137,6 +153,10 @@ root-map-spec =
     Inv-loop
     μ-loop
     pages-requires
+    threes-for-requires
+    mul-first
+    add-first
+    flat-pages-requires
     directory-requires
     words-of-requires
     shadow2-requires
@@ -148,9 +168,9 @@ root-map-spec =
     table-of-requires
     read-requires
     table-of-requires-2
-    cast-t14
+    cast-t18
     page-words-requires
-    mul-t16
+    mul-t20
     root-row-requires
     returns
     add-next-word

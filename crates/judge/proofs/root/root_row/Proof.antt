@@ -15,10 +15,10 @@ use Rattle.judge.proofs.root.root_row.Statement.{statement}
 use Rattle.judge.proofs.root.root_row.Tie as tie
 
 abbrev Inv-loop : tie.InvT-loop
-Inv-loop b n v pt s2 end j₀ j = (j ≤ pageWords b) × (run (asking (λ k. rootWords b n (v .0 + k) (getD pt k 0) (getD s2 k 0))) true (from (pageWords b) 0) ≡ run (asking (λ k. rootWords b n (v .0 + k) (getD pt k 0) (getD s2 k 0))) true (from (pageWords b - j) j))
+Inv-loop b first flat v pt s2 end j₀ j = (j ≤ pageWords b) × (run (asking (λ k. rootWords b first flat (v .0 + k) (getD pt k 0) (getD s2 k 0))) true (from (pageWords b) 0) ≡ run (asking (λ k. rootWords b first flat (v .0 + k) (getD pt k 0) (getD s2 k 0))) true (from (pageWords b - j) j))
 
 abbrev μ-loop : tie.MeasureT-loop
-μ-loop b n v pt s2 end j₀ j = pageWords b - j
+μ-loop b first flat v pt s2 end j₀ j = pageWords b - j
 
 -- src/root.rt:47:9
 page-words-requires : tie.Need-page-words-requires Inv-loop μ-loop
@@ -26,11 +26,11 @@ page-words-requires c κs = search needs
 
 -- src/root.rt:49:5
 loop-holds : tie.Need-loop-holds Inv-loop μ-loop
-loop-holds c = (omega arith, run-start (asking (λ k. rootWords (c .before .before .before .args .b) (c .before .before .before .args .n) (c .before .before .before .args .v .0 + k) (getD (c .before .before .before .args .pt .now) k 0) (getD (c .before .before .before .args .s2 .now) k 0))) (pageWords (c .before .before .before .args .b)) true)
+loop-holds c = (omega arith, run-start (asking (λ k. rootWords (c .before .before .before .args .b) (c .before .before .before .args .first) (c .before .before .before .args .flat) (c .before .before .before .args .v .0 + k) (getD (c .before .before .before .args .pt .now) k 0) (getD (c .before .before .before .args .s2 .now) k 0))) (pageWords (c .before .before .before .args .b)) true)
 
 -- src/root.rt:50:41
-add-t9 : tie.Need-add-t9 Inv-loop μ-loop
-add-t9 c = omega (arith, c .before .before .before .before .before .before .pre .1, most-pages (c .before .before .before .before .before .before .args .b) (c .before .before .before .before .before .before .pre .0 .1), c .before .before .before .page-words .ensures .0)
+add-t10 : tie.Need-add-t10 Inv-loop μ-loop
+add-t10 c = omega (arith, c .before .before .before .before .before .before .pre .1 .0, most-pages (c .before .before .before .before .before .before .args .b) (c .before .before .before .before .before .before .pre .0 .1), c .before .before .before .page-words .ensures .0)
 
 -- src/root.rt:50:60
 cast-read : tie.Need-cast-read Inv-loop μ-loop
@@ -50,11 +50,11 @@ read-requires-2 c κs = search needs
 
 -- src/root.rt:50:13
 root-cell-requires : tie.Need-root-cell-requires Inv-loop μ-loop
-root-cell-requires c κs = search needs
+root-cell-requires c κs = (c .before .before .before .before .before .before .before .before .pre .0, omega (arith, c .before .before .before .before .before .before .before .before .pre .1 .0, c .before .before .before .before .before .before .before .before .pre .1 .1, c .before .before .before .before .before .page-words .ensures .0, c .before .before .before .loop-test .taken))
 
 -- src/root.rt:51:13
 returns : tie.Need-returns Inv-loop μ-loop
-returns c = ask-stop (λ k. rootWords (c .before .before .before .before .before .before .before .before .before .before .args .b) (c .before .before .before .before .before .before .before .before .before .before .args .n) (c .before .before .before .before .before .before .before .before .before .before .args .v .0 + k) (getD (c .before .before .before .before .before .before .before .before .before .before .args .pt .now) k 0) (getD (c .before .before .before .before .before .before .before .before .before .before .args .s2 .now) k 0)) (pageWords (c .before .before .before .before .before .before .before .before .before .before .args .b)) (c .before .before .before .before .before .before .loop .j) (omega (arith, c .before .before .before .before .before .before .before .page-words .ensures .0)) (c .before .root-cell .ensures ∙ root-words (c .before .before .before .before .before .before .before .before .before .before .args .b) (c .before .before .before .before .before .before .before .before .before .before .args .n) (c .before .before .before .before .before .before .before .before .before .before .args .v .0 + c .before .before .before .before .before .before .loop .j) (c .before .before .before .read .ensures) (c .before .before .read2 .ensures)) (c .if1 .taken) (c .before .before .before .before .before .before .loop .inv .1)
+returns c = ask-stop (λ k. rootWords (c .before .before .before .before .before .before .before .before .before .before .args .b) (c .before .before .before .before .before .before .before .before .before .before .args .first) (c .before .before .before .before .before .before .before .before .before .before .args .flat) (c .before .before .before .before .before .before .before .before .before .before .args .v .0 + k) (getD (c .before .before .before .before .before .before .before .before .before .before .args .pt .now) k 0) (getD (c .before .before .before .before .before .before .before .before .before .before .args .s2 .now) k 0)) (pageWords (c .before .before .before .before .before .before .before .before .before .before .args .b)) (c .before .before .before .before .before .before .loop .j) (omega (arith, c .before .before .before .before .before .before .before .page-words .ensures .0)) (c .before .root-cell .ensures ∙ root-words (c .before .before .before .before .before .before .before .before .before .before .args .b) (c .before .before .before .before .before .before .before .before .before .before .args .first) (c .before .before .before .before .before .before .before .before .before .before .args .flat) (c .before .before .before .before .before .before .before .before .before .before .args .v .0 + c .before .before .before .before .before .before .loop .j) (c .before .before .before .read .ensures) (c .before .before .read2 .ensures)) (c .if1 .taken) (c .before .before .before .before .before .before .loop .inv .1)
 
 -- src/root.rt:53:9
 add-j : tie.Need-add-j Inv-loop μ-loop
@@ -66,11 +66,11 @@ loop-less c = search needs
 
 -- src/root.rt:49:5
 loop-again : tie.Need-loop-again Inv-loop μ-loop
-loop-again c = (omega (arith, c .before .before .before .before .before .before .before .page-words .ensures .0), ask-next (λ k. rootWords (c .before .before .before .before .before .before .before .before .before .before .args .b) (c .before .before .before .before .before .before .before .before .before .before .args .n) (c .before .before .before .before .before .before .before .before .before .before .args .v .0 + k) (getD (c .before .before .before .before .before .before .before .before .before .before .args .pt .now) k 0) (getD (c .before .before .before .before .before .before .before .before .before .before .args .s2 .now) k 0)) (pageWords (c .before .before .before .before .before .before .before .before .before .before .args .b)) (c .before .before .before .before .before .before .loop .j) (omega (arith, c .before .before .before .before .before .before .before .page-words .ensures .0)) (c .before .root-cell .ensures ∙ root-words (c .before .before .before .before .before .before .before .before .before .before .args .b) (c .before .before .before .before .before .before .before .before .before .before .args .n) (c .before .before .before .before .before .before .before .before .before .before .args .v .0 + c .before .before .before .before .before .before .loop .j) (c .before .before .before .read .ensures) (c .before .before .read2 .ensures)) (c .if1 .left) (c .before .before .before .before .before .before .loop .inv .1))
+loop-again c = (omega (arith, c .before .before .before .before .before .before .before .page-words .ensures .0), ask-next (λ k. rootWords (c .before .before .before .before .before .before .before .before .before .before .args .b) (c .before .before .before .before .before .before .before .before .before .before .args .first) (c .before .before .before .before .before .before .before .before .before .before .args .flat) (c .before .before .before .before .before .before .before .before .before .before .args .v .0 + k) (getD (c .before .before .before .before .before .before .before .before .before .before .args .pt .now) k 0) (getD (c .before .before .before .before .before .before .before .before .before .before .args .s2 .now) k 0)) (pageWords (c .before .before .before .before .before .before .before .before .before .before .args .b)) (c .before .before .before .before .before .before .loop .j) (omega (arith, c .before .before .before .before .before .before .before .page-words .ensures .0)) (c .before .root-cell .ensures ∙ root-words (c .before .before .before .before .before .before .before .before .before .before .args .b) (c .before .before .before .before .before .before .before .before .before .before .args .first) (c .before .before .before .before .before .before .before .before .before .before .args .flat) (c .before .before .before .before .before .before .before .before .before .before .args .v .0 + c .before .before .before .before .before .before .loop .j) (c .before .before .before .read .ensures) (c .before .before .read2 .ensures)) (c .if1 .left) (c .before .before .before .before .before .before .loop .inv .1))
 
 -- src/root.rt:38:1
 returns-2 : tie.Need-returns-2 Inv-loop μ-loop
-returns-2 c = sym (c .before .loop .inv .1 ∙ run-end (asking (λ k. rootWords (c .before .before .before .before .before .args .b) (c .before .before .before .before .before .args .n) (c .before .before .before .before .before .args .v .0 + k) (getD (c .before .before .before .before .before .args .pt .now) k 0) (getD (c .before .before .before .before .before .args .s2 .now) k 0))) (pageWords (c .before .before .before .before .before .args .b)) (c .before .loop .j) true (omega (arith, c .before .before .page-words .ensures .0)))
+returns-2 c = sym (c .before .loop .inv .1 ∙ run-end (asking (λ k. rootWords (c .before .before .before .before .before .args .b) (c .before .before .before .before .before .args .first) (c .before .before .before .before .before .args .flat) (c .before .before .before .before .before .args .v .0 + k) (getD (c .before .before .before .before .before .args .pt .now) k 0) (getD (c .before .before .before .before .before .args .s2 .now) k 0))) (pageWords (c .before .before .before .before .before .args .b)) (c .before .loop .j) true (omega (arith, c .before .before .page-words .ensures .0)))
 
 pub root-row-spec : {M : Type 1} → statement M
 root-row-spec =
@@ -80,7 +80,7 @@ root-row-spec =
     μ-loop
     page-words-requires
     loop-holds
-    add-t9
+    add-t10
     cast-read
     read-requires
     cast-read-2
