@@ -19,7 +19,7 @@ ghost use Rattle.soundness.specs.Test.{own};
 ghost use Rattle.judging.specs.Quick.{partitionTest};
 ghost use Rattle.pages.specs.Width.{Width};
 
-// A partition with left levels below it.
+// A partition with left levels below it. Each child has kernel pages, so that where none are due there is no child to look for.
 pub fn judge_partition(b: u32, m: &[u32], seen: &mut [u8], d: PhysicalPage, left: u32) -> bool
     requires { ⌜ Width b ⌝ }
     ensures { λ r.
@@ -28,11 +28,15 @@ pub fn judge_partition(b: u32, m: &[u32], seen: &mut [u8], d: PhysicalPage, left
         ≡ answer r (now (seen .exit))
         ⌝ }
 {
-    if !partition_test(b, m, d) {
+    let t = partition_test(b, m, d);
+    if !t.passed {
         return false;
     }
     if !mark_own(b, m, seen, d) {
         return false;
+    }
+    if t.due == 0 {
+        return true;
     }
     judge_children(b, m, seen, d, left)
 }

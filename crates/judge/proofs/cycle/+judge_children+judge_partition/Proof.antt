@@ -19,7 +19,7 @@ use Rattle.soundness.specs.Test.{own}
 use Rattle.judging.specs.Quick.{partitionTest}
 use Rattle.judge.specs.Run.{run, marking}
 use Rattle.judge.specs.Rows.{used, childWords}
-use Rattle.judge.proofs.Laws.Tree.{partition-few}
+use Rattle.judge.proofs.Laws.Tree.{no-child, partition-few}
 use Rattle.forms.proofs.Laws.Tests.{yes, no}
 use Rattle.judge.proofs.Laws.Search.{next-low, next-high, next-here}
 use Rattle.judge.proofs.Laws.Rows.{rowStep, rows-first, rows-next, rows-end}
@@ -1166,19 +1166,16 @@ judge-children-returns-3 t c =
     let e1 = c .before .before .before .words-of2 .ensures ∙ ap (page (s .b) (s .m .now)) (c .before .before .before .before .shadow1 .ensures) in
     rows-end (s .b) (s .m .now) (childStep (s .b) (s .m .now) (s .d .0) (W.child (children (s .b) (s .m .now)) (own (s .b) (s .m .now)) (partitionTest (s .b) (s .m .now)) (s .left))) (s .d .0) (c .before .before .before .before .before .words-of .result .now) e (some (c .before .loop .seen)) (c .loop-test .left) (c .before .loop .inv .3 (s .d .0) e e1)
 
--- src/cycle.rt:31:9
-judge-partition-partition-test-requires :
-    (t : ℕ) → judge-partition-lts.Need-partition-test-requires (
-      partition-test-reads.Asked,
-      partition-test-reads.Learnt,
-      mark-own-reads.Asked,
-      mark-own-reads.Learnt,
-      judge-children-below t,
-      judge-children.Post,
-    ) (judge-partition-at t) judge-partition.Post
+judge-partition-partition-test-requires : (t : ℕ) → judge-partition-lts.Need-partition-test-requires (
+  partition-test-reads.Asked,
+  partition-test-reads.Learnt,
+  mark-own-reads.Asked,
+  mark-own-reads.Learnt,
+  judge-children-below t,
+  judge-children.Post,
+) (judge-partition-at t) judge-partition.Post
 judge-partition-partition-test-requires t c κs = search needs
 
--- src/cycle.rt:32:9
 judge-partition-returns : (t : ℕ) → judge-partition-lts.Need-returns (
   partition-test-reads.Asked,
   partition-test-reads.Learnt,
@@ -1187,9 +1184,8 @@ judge-partition-returns : (t : ℕ) → judge-partition-lts.Need-returns (
   judge-children-below t,
   judge-children.Post,
 ) (judge-partition-at t) judge-partition.Post
-judge-partition-returns t c = judge-bad _ _ _ _ _ _ (no (c .before .partition-test .ensures) (c .if1 .taken))
+judge-partition-returns t c = judge-bad _ _ _ _ _ _ (no (c .before .before .partition-test .ensures .0) (c .if1 .taken))
 
--- src/cycle.rt:34:9
 judge-partition-mark-own-requires : (t : ℕ) → judge-partition-lts.Need-mark-own-requires (
   partition-test-reads.Asked,
   partition-test-reads.Learnt,
@@ -1198,9 +1194,8 @@ judge-partition-mark-own-requires : (t : ℕ) → judge-partition-lts.Need-mark-
   judge-children-below t,
   judge-children.Post,
 ) (judge-partition-at t) judge-partition.Post
-judge-partition-mark-own-requires t c κs = (c .before .before .before .before .before .pre .1, partition-few (c .before .before .before .before .before .args .b) (c .before .before .before .before .before .args .m .now) (c .before .before .before .before .before .args .d .0) (yes (c .before .before .partition-test .ensures) (c .before .if1 .left)))
+judge-partition-mark-own-requires t c κs = (c .before .before .before .before .before .before .pre .1, partition-few (c .before .before .before .before .before .before .args .b) (c .before .before .before .before .before .before .args .m .now) (c .before .before .before .before .before .before .args .d .0) (yes (c .before .before .before .partition-test .ensures .0) (c .before .if1 .left)))
 
--- src/cycle.rt:35:9
 judge-partition-same-length : (t : ℕ) → judge-partition-lts.Need-same-length (
   partition-test-reads.Asked,
   partition-test-reads.Learnt,
@@ -1211,7 +1206,6 @@ judge-partition-same-length : (t : ℕ) → judge-partition-lts.Need-same-length
 ) (judge-partition-at t) judge-partition.Post
 judge-partition-same-length t c = search needs
 
--- src/cycle.rt:35:9
 judge-partition-returns-2 : (t : ℕ) → judge-partition-lts.Need-returns-2 (
   partition-test-reads.Asked,
   partition-test-reads.Learnt,
@@ -1220,21 +1214,8 @@ judge-partition-returns-2 : (t : ℕ) → judge-partition-lts.Need-returns-2 (
   judge-children-below t,
   judge-children.Post,
 ) (judge-partition-at t) judge-partition.Post
-judge-partition-returns-2 t c = judge-stop _ _ _ _ _ _ (yes (c .before .before .before .before .before .before .partition-test .ensures) (c .before .before .before .before .before .if1 .left)) (failed _ (c .before .before .before .mark-own .result) (c .before .before .before .mark-own .last .1 .1 .0) (c .before .before .before .mark-own .ensures) (not-true _ (c .if2 .taken)))
+judge-partition-returns-2 t c = judge-stop _ _ _ _ _ _ (yes (c .before .before .before .before .before .before .before .partition-test .ensures .0) (c .before .before .before .before .before .if1 .left)) (failed _ (c .before .before .before .mark-own .result) (c .before .before .before .mark-own .last .1 .1 .0) (c .before .before .before .mark-own .ensures) (not-true _ (c .if2 .taken)))
 
--- src/cycle.rt:37:5
-judge-partition-judge-children-requires :
-    (t : ℕ) → judge-partition-lts.Need-judge-children-requires (
-      partition-test-reads.Asked,
-      partition-test-reads.Learnt,
-      mark-own-reads.Asked,
-      mark-own-reads.Learnt,
-      judge-children-below t,
-      judge-children.Post,
-    ) (judge-partition-at t) judge-partition.Post
-judge-partition-judge-children-requires t c κs = search needs
-
--- src/cycle.rt:23:1
 judge-partition-same-length-2 : (t : ℕ) → judge-partition-lts.Need-same-length-2 (
   partition-test-reads.Asked,
   partition-test-reads.Learnt,
@@ -1245,7 +1226,6 @@ judge-partition-same-length-2 : (t : ℕ) → judge-partition-lts.Need-same-leng
 ) (judge-partition-at t) judge-partition.Post
 judge-partition-same-length-2 t c = search needs
 
--- src/cycle.rt:23:1
 judge-partition-returns-3 : (t : ℕ) → judge-partition-lts.Need-returns-3 (
   partition-test-reads.Asked,
   partition-test-reads.Learnt,
@@ -1254,7 +1234,37 @@ judge-partition-returns-3 : (t : ℕ) → judge-partition-lts.Need-returns-3 (
   judge-children-below t,
   judge-children.Post,
 ) (judge-partition-at t) judge-partition.Post
-judge-partition-returns-3 t c = judge-go _ _ _ _ _ _ (c .before .before .before .before .before .before .before .mark-own .last .1 .1 .0) (yes (c .before .before .before .before .before .before .before .before .before .before .partition-test .ensures) (c .before .before .before .before .before .before .before .before .before .if1 .left)) (passed _ (c .before .before .before .before .before .before .before .mark-own .result) _ (c .before .before .before .before .before .before .before .mark-own .ensures) (not-false _ (c .before .before .before .before .if2 .left))) ∙ c .before .before .judge-children .ensures
+judge-partition-returns-3 t c = judge-go _ _ _ _ _ _ (c .before .before .before .before .before .mark-own .last .1 .1 .0) (yes (c .before .before .before .before .before .before .before .before .before .partition-test .ensures .0) (c .before .before .before .before .before .before .before .if1 .left)) (passed _ (c .before .before .before .before .before .mark-own .result) _ (c .before .before .before .before .before .mark-own .ensures) (not-false _ (c .before .before .if2 .left))) ∙ no-child (c .before .before .before .before .before .before .before .before .before .before .before .before .args .b) (c .before .before .before .before .before .before .before .before .before .before .before .before .args .m .now) _ (c .before .before .before .before .before .mark-own .last .1 .1 .0) (c .before .before .before .before .before .before .before .before .before .before .before .before .args .d .0) (c .before .before .before .before .before .before .before .before .before .partition-test .ensures .1 (not-false _ (c .before .before .before .before .before .before .before .if1 .left))) (c .if3 .taken)
+
+judge-partition-judge-children-requires : (t : ℕ) → judge-partition-lts.Need-judge-children-requires (
+  partition-test-reads.Asked,
+  partition-test-reads.Learnt,
+  mark-own-reads.Asked,
+  mark-own-reads.Learnt,
+  judge-children-below t,
+  judge-children.Post,
+) (judge-partition-at t) judge-partition.Post
+judge-partition-judge-children-requires t c κs = search needs
+
+judge-partition-same-length-3 : (t : ℕ) → judge-partition-lts.Need-same-length-3 (
+  partition-test-reads.Asked,
+  partition-test-reads.Learnt,
+  mark-own-reads.Asked,
+  mark-own-reads.Learnt,
+  judge-children-below t,
+  judge-children.Post,
+) (judge-partition-at t) judge-partition.Post
+judge-partition-same-length-3 t c = search needs
+
+judge-partition-returns-4 : (t : ℕ) → judge-partition-lts.Need-returns-4 (
+  partition-test-reads.Asked,
+  partition-test-reads.Learnt,
+  mark-own-reads.Asked,
+  mark-own-reads.Learnt,
+  judge-children-below t,
+  judge-children.Post,
+) (judge-partition-at t) judge-partition.Post
+judge-partition-returns-4 t c = judge-go _ _ _ _ _ _ (c .before .before .before .before .before .before .before .before .before .mark-own .last .1 .1 .0) (yes (c .before .before .before .before .before .before .before .before .before .before .before .before .before .partition-test .ensures .0) (c .before .before .before .before .before .before .before .before .before .before .before .if1 .left)) (passed _ (c .before .before .before .before .before .before .before .before .before .mark-own .result) _ (c .before .before .before .before .before .before .before .before .before .mark-own .ensures) (not-false _ (c .before .before .before .before .before .before .if2 .left))) ∙ c .before .before .judge-children .ensures
 
 pub +judge-children+judge-partition-spec : {M : Type 1} → statement M
 +judge-children+judge-partition-spec =
@@ -1334,6 +1344,8 @@ pub +judge-children+judge-partition-spec : {M : Type 1} → statement M
     (judge-partition-mark-own-requires t)
     (judge-partition-same-length t)
     (judge-partition-returns-2 t)
-    (judge-partition-judge-children-requires t)
     (judge-partition-same-length-2 t)
     (judge-partition-returns-3 t)
+    (judge-partition-judge-children-requires t)
+    (judge-partition-same-length-3 t)
+    (judge-partition-returns-4 t)
