@@ -8,3 +8,4 @@ pub mod Numbers
 pub mod Marks
 pub mod Tree
 pub mod Judged
+pub mod Lent

@@ -57,6 +57,10 @@ module _ (b : ℕ) (m : List ℕ) where
   abbrev pub lentWord : ℕ → ℕ → Bool
   lentWord d x = virtual b x && not (eqb (tableFor b m d x) 0) && childAt b m d x
 
+  -- a word that passed above, or 0
+  abbrev pub Passed : ℕ → ℕ → Type 0
+  Passed d x = (eqb x 0 || lentWord d x) ≡ true
+
   abbrev pub shadow1Word : ℕ → ℕ → ℕ → ℕ → Bool
   shadow1Word d v w x =
       cond (eqb x 0) true
@@ -66,7 +70,8 @@ module _ (b : ℕ) (m : List ℕ) where
   abbrev pub cellWords : ℕ → ℕ → ℕ → ℕ → ℕ → Bool
   cellWords d v w x y =
       cond (eqb w 0) (eqb x 0 && eqb y 0)
-      (entryTest b m w && virtual b y && shadow1Word d v w x && (eqb d 1 || fromWords (directory b m (parent b m d)) (shadow1 b m (parent b m d)) (word b m d 0) w y))
+      (entryTest b m w && virtual b y && shadow1Word d v w x
+      && (eqb d 1 || fromWords (directory b m (parent b m d)) (shadow1 b m (parent b m d)) (word b m d 0) w y))
 
 -- the words of the root at virtual page v: it maps the flat pages, from first + 1 on
 abbrev pub rootWord : ℕ → ℕ → ℕ → ℕ → ℕ → Bool

@@ -25,9 +25,9 @@ use pages::table_for;
 use pages::table_word;
 use pages::virtual_page;
 ghost use mathlib.Core.Path.{_≡_};
-ghost use mathlib.Core.Bool.{true, _||_};
+ghost use mathlib.Core.Bool.{true, cond, _||_};
 ghost use Prim.Native.Nat.{_+_, _-_, _≤_, _<_};
-ghost use lib.Dec.{eqb};
+ghost use lib.Dec.{leb, eqb};
 ghost use lib.ListN.{length, getD};
 ghost use Rattle.walk.specs.Finite.{from, all};
 ghost use Rattle.memory.specs.Geometry.{pageWords, address};
@@ -35,7 +35,7 @@ ghost use Rattle.memory.specs.Counts.{tabled};
 ghost use Rattle.judging.specs.Quick;
 ghost use Rattle.judge.specs.Search.{seek};
 ghost use Rattle.judge.specs.Run.{run, asking};
-ghost use Rattle.judge.specs.Rows.{virtualPages, anyUsed, Lends, fromWords, lentWord, shadow1Word, cellWords};
+ghost use Rattle.judge.specs.Rows.{virtualPages, anyUsed, Lends, fromWords, lentWord, Passed, shadow1Word, cellWords};
 ghost use Rattle.pages.specs.Width.{Width};
 
 // A parent as the lender of its child's pages: its directory and shadow 1, and the child's address there.
@@ -106,10 +106,20 @@ pub fn lent_word(b: u32, m: &[u32], d: PhysicalPage, x: u32) -> bool
     child_at(b, m, d, x)
 }
 
-// "0, or the virtual address of the child's descriptor if the page is lent, or 1 if the page is itself a child's descriptor"
-pub fn shadow1_word(b: u32, m: &[u32], d: PhysicalPage, v: VirtualPage, w: u32, x: u32) -> bool
+// "0, or the virtual address of the child's descriptor if the page is lent, or 1 if the page is itself a child's descriptor". Neighbours are often
+// lent to the same child: `to` is a word of d that passed before, or 0.
+pub fn shadow1_word(
+    b: u32,
+    m: &[u32],
+    d: PhysicalPage,
+    v: VirtualPage,
+    w: u32,
+    x: u32,
+    to: u32,
+) -> bool
     requires { ⌜ Width b ⌝ }
     requires page { ⌜ v .0 < virtualPages b ⌝ }
+    requires passed { ⌜ Passed b (now m) (d .0) to ⌝ }
     ensures { λ r. ⌜ r ≡ shadow1Word b (now (m .entry)) (d .0) (address b (v .0)) w x ⌝ }
 {
     if x == 0 {
@@ -118,7 +128,17 @@ pub fn shadow1_word(b: u32, m: &[u32], d: PhysicalPage, v: VirtualPage, w: u32, 
     if x == 1 {
         return child_forms(b, m, d, address_of(b, v), page_of(b, w));
     }
+    if x == to {
+        return true;
+    }
     lent_word(b, m, d, x)
+}
+
+// The last shadow 1 word above 1 that passed, once x has passed too.
+fn last_lent(x: u32, to: u32) -> u32
+    ensures { λ r. ⌜ r ≡ cond (leb x 1) to x ⌝ }
+{
+    if x <= 1 { to } else { x }
 }
 
 // "An absent mapping has 0 in all three table words."
@@ -131,10 +151,12 @@ pub fn cell(
     w: u32,
     x: u32,
     y: u32,
+    to: u32,
 ) -> bool
     requires { ⌜ Width b ⌝ }
     requires page { ⌜ v .0 < virtualPages b ⌝ }
     requires lender { ⌜ Lends b (now m) (d .0) (p .directory .0) (p .shadow1 .0) (p .child) ⌝ }
+    requires passed { ⌜ Passed b (now m) (d .0) to ⌝ }
     ensures { λ r. ⌜ r ≡ cellWords b (now (m .entry)) (d .0) (address b (v .0)) w x y ⌝ }
 {
     if w == 0 {
@@ -149,7 +171,7 @@ pub fn cell(
     if !virtual_address(b, y) {
         return false;
     }
-    if !shadow1_word(b, m, d, v, w, x) {
+    if !shadow1_word(b, m, d, v, w, x, to) {
         return false;
     }
     origin(b, m, d, p, w, y)
@@ -198,8 +220,10 @@ pub fn cells_row(
 {
     let n = least(pt.len(), least(s1.len(), s2.len()));
     let end = page_words(b) as usize;
+    let mut to: u32 = 0;
     let mut j = next_cell(pt, s1, s2, n, 0);
     while j < end {
+        let x = read(s1, j);
         if !cell(
             b,
             m,
@@ -207,11 +231,13 @@ pub fn cells_row(
             p,
             VirtualPage(v.0 + (j as u32)),
             read(pt, j),
-            read(s1, j),
+            x,
             read(s2, j),
+            to,
         ) {
             return false;
         }
+        to = last_lent(x, to);
         j = next_cell(pt, s1, s2, n, j + 1);
     }
     true
