@@ -1,18 +1,9 @@
 // What format leaves: the words of the root's descriptor, directory, shadows and list.
 use pages::PhysicalPage;
-use pages::VirtualPage;
 use pages::address;
-use pages::flat_pages;
-use pages::page_of;
-use pages::rights;
-use pages::threes_for;
 ghost use mathlib.Core.Path.{_≡_};
-ghost use mathlib.Core.Bool.{cond, _&&_};
 ghost use Prim.Native.Nat.{_+_, _*_, _<_};
-ghost use lib.Dec.{leb, eqb};
-ghost use Rattle.memory.specs.Geometry.{pageOf, threesFor, flatPages};
-ghost use Rattle.memory.specs.Entry;
-ghost use Rattle.memory.specs.Entry.{allRights};
+ghost use Rattle.memory.specs.Geometry.{threesFor};
 ghost use Rattle.memory.specs.Format.{rootDescriptorWord, rootDirectoryWord, rootListWord};
 ghost use Rattle.pages.specs.Width.{Width};
 
@@ -58,27 +49,4 @@ pub fn root_list_word(b: u32, n: u32, t: u32, i: u32) -> u32
         return 0;
     }
     address(b, PhysicalPage(5 + i / 2))
-}
-
-// "it maps exactly the flat pages, with all rights": w is the page table word of virtual page v.
-pub fn root_mapping(b: u32, n: u32, v: VirtualPage, w: u32) -> bool
-    requires { ⌜ Width b ⌝ }
-    ensures { λ r.
-        ⌜
-        r
-        ≡ cond (leb 1 (v .0) && leb (v .0) (flatPages b n))
-        (eqb (pageOf b w) (5 + 3 * threesFor b n + v .0) && eqb (Entry.rights w) allRights)
-        (eqb w 0)
-        ⌝ }
-{
-    if v.0 == 0 {
-        return w == 0;
-    }
-    if flat_pages(b, n) < v.0 {
-        return w == 0;
-    }
-    if page_of(b, w).0 != 5 + 3 * threes_for(b, n) + v.0 {
-        return false;
-    }
-    rights(w) == 7
 }

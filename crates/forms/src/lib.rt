@@ -15,10 +15,8 @@ pub mod words;
 
 pub use addresses::virtual_address;
 pub use children::child_forms;
-pub use formatted::root_mapping;
 pub use header::header_test;
 pub use pairs::list_pair;
 pub use partitions::forms_test;
 pub use root::root_pages;
-pub use roots::directory_word;
 pub use tables::entry_test;
