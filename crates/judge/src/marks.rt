@@ -1,29 +1,21 @@
 // "Pages 1 to N−1 are each in exactly one hand or one kernel use": one mark a page, set at each use.
-use crate::rows::next_word;
-use crate::rows::table_of;
-use crate::rows::words_of;
 use forms::list_pair;
 use pages::PhysicalPage;
 use pages::accessible;
-use pages::directory;
 use pages::named;
 use pages::page_of;
-use pages::read;
-use pages::shadow1;
 use pages::threes;
 ghost use mathlib.Core.Path.{_≡_};
 ghost use mathlib.Core.Bool.{cond};
 ghost use mathlib.Core.List.{_++_};
 ghost use mathlib.Core.Option.{some};
 ghost use Prim.Native.Nat.{_+_, _*_, _≤_, _<_};
-ghost use lib.ListN.{length, getD};
-ghost use Rattle.walk.specs.Finite.{from};
+ghost use lib.ListN.{getD};
 ghost use Rattle.walk.specs.Marks.{answer, mark, marks};
-ghost use Rattle.memory.specs.Geometry.{pageWords, pageOf, mostThrees};
+ghost use Rattle.memory.specs.Geometry.{pageOf, mostThrees};
 ghost use Rattle.memory.specs.Partition;
 ghost use Rattle.memory.specs.Uses.{fivePages};
-ghost use Rattle.soundness.specs.Test.{listedPages, handPages, own};
-ghost use Rattle.judge.specs.Run.{run, marking};
+ghost use Rattle.soundness.specs.Test.{listedPages};
 ghost use Rattle.judge.specs.Rows.{handWords};
 ghost use Rattle.pages.specs.Width.{Width};
 
@@ -92,55 +84,4 @@ pub fn mark_hand(b: u32, seen: &mut [u8], w: u32, x: u32) -> bool
         return true;
     }
     mark_page(seen, page_of(b, w))
-}
-
-// Marks the pages in hand of a row, whose page table is pt and whose shadow 1 table is s1.
-pub fn mark_row(b: u32, seen: &mut [u8], pt: &[u32], s1: &[u32]) -> bool
-    requires { ⌜ Width b ⌝ }
-    requires short { ⌜ length (now pt) ≤ pageWords b ⌝ }
-    ensures { λ r.
-        ⌜
-        run (marking (λ j. handWords (getD (now (pt .entry)) j 0) (getD (now (s1 .entry)) j 0)) (λ s j. mark s (pageOf b (getD (now (pt .entry)) j 0)))) (some (now (seen .entry))) (from (pageWords b) 0)
-        ≡ answer r (now (seen .exit))
-        ⌝ }
-{
-    let mut j = next_word(pt, 0);
-    while j < pt.len() {
-        if !mark_hand(b, seen, pt[j], read(s1, j)) {
-            return false;
-        }
-        j = next_word(pt, j + 1);
-    }
-    true
-}
-
-// Marks the pages in d's hand.
-pub fn mark_hands(b: u32, m: &[u32], seen: &mut [u8], d: PhysicalPage) -> bool
-    requires { ⌜ Width b ⌝ }
-    ensures { λ r. ⌜ marks (now (seen .entry)) (handPages b (now (m .entry)) (d .0)) ≡ answer r (now (seen .exit)) ⌝ }
-{
-    let dir = words_of(b, m, directory(b, m, d));
-    let sh1 = words_of(b, m, shadow1(b, m, d));
-    let mut i = next_word(dir, 0);
-    while i < dir.len() {
-        let pt = table_of(b, m, dir[i]);
-        let s1 = table_of(b, m, read(sh1, i));
-        if !mark_row(b, seen, pt, s1) {
-            return false;
-        }
-        i = next_word(dir, i + 1);
-    }
-    true
-}
-
-// Marks the pages that d uses.
-pub fn mark_own(b: u32, m: &[u32], seen: &mut [u8], d: PhysicalPage) -> bool
-    requires { ⌜ Width b ⌝ }
-    requires few { ⌜ Partition.threes b (now m) (d .0) ≤ mostThrees ⌝ }
-    ensures { λ r. ⌜ marks (now (seen .entry)) (own b (now (m .entry)) (d .0)) ≡ answer r (now (seen .exit)) ⌝ }
-{
-    if !mark_kernel(b, m, seen, d) {
-        return false;
-    }
-    mark_hands(b, m, seen, d)
 }

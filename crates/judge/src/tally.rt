@@ -1,4 +1,6 @@
-// What is counted in a partition's tables, one sweep over its rows for all of it; and what its parent lends to it.
+// One sweep over the rows of a partition's tables, in which the pages in its hand are marked and all that is counted there is counted; and what its parent
+// lends to it.
+use crate::marks::mark_hand;
 use crate::rows::next_word;
 use crate::rows::table_of;
 use crate::rows::words_of;
@@ -11,20 +13,24 @@ use pages::read;
 use pages::shadow1;
 use pages::threes;
 ghost use mathlib.Core.Path.{_≡_};
-ghost use mathlib.Core.Bool.{not};
+ghost use mathlib.Core.Bool.{true, not};
+ghost use mathlib.Core.Option.{some};
 ghost use Prim.Native.Nat.{_*_, _≤_};
 ghost use lib.Dec.{eqb};
 ghost use lib.ListN.{length, getD};
 ghost use Rattle.walk.specs.Finite.{from};
-ghost use Rattle.memory.specs.Geometry.{pageWords};
+ghost use Rattle.walk.specs.Marks.{answer, mark, marks};
+ghost use Rattle.memory.specs.Geometry.{pageWords, pageOf};
+ghost use Rattle.soundness.specs.Test.{handPages};
 ghost use Rattle.judging.specs.Quick.{shutCount, dueCount, lentCount, mappedCount};
-ghost use Rattle.judge.specs.Run.{run, adding, bit};
-ghost use Rattle.judge.specs.Rows.{shutWords, dueWords};
+ghost use Rattle.judge.specs.Run.{run, adding, marking, bit};
+ghost use Rattle.judge.specs.Rows.{shutWords, handWords, dueWords};
 ghost use Rattle.pages.specs.Width.{Width};
 
-// The pages mapped, those neither lent nor accessible, and the kernel pages of the children. The last is a sum in 64 bits, since a child's list may have any
-// number of threes.
-pub struct Counts {
+// Whether each page in hand could be marked; and where it could, the pages mapped, those neither lent nor accessible, and the kernel pages of the children.
+// The last is a sum in 64 bits, since a child's list may have any number of threes.
+pub struct Swept {
+    pub marked: bool,
     pub mapped: u32,
     pub shut: u32,
     pub due: u64,
@@ -61,17 +67,20 @@ fn due_pages(b: u32, m: &[u32], w: u32, x: u32) -> u64
 }
 
 // A row, whose page table is pt and whose shadow 1 table is s1.
-pub fn tally_row(b: u32, m: &[u32], pt: &[u32], s1: &[u32]) -> Counts
+pub fn tally_row(b: u32, m: &[u32], seen: &mut [u8], pt: &[u32], s1: &[u32]) -> Swept
     requires { ⌜ Width b ⌝ }
     requires short { ⌜ length (now pt) ≤ pageWords b ⌝ }
     ensures { λ r.
         ⌜
-        (r .mapped ≡ run (adding (λ j. bit (not (eqb (getD (now (pt .entry)) j 0) 0)))) 0 (from (pageWords b) 0))
+        (run (marking (λ j. handWords (getD (now (pt .entry)) j 0) (getD (now (s1 .entry)) j 0)) (λ s j. mark s (pageOf b (getD (now (pt .entry)) j 0)))) (some (now (seen .entry))) (from (pageWords b) 0)
+        ≡ answer (r .marked) (now (seen .exit)))
+        × (r .marked ≡ true
+        → (r .mapped ≡ run (adding (λ j. bit (not (eqb (getD (now (pt .entry)) j 0) 0)))) 0 (from (pageWords b) 0))
         × (r .shut ≡ run (adding (λ j. bit (shutWords (getD (now (pt .entry)) j 0) (getD (now (s1 .entry)) j 0)))) 0 (from (pageWords b) 0))
         × (r .due ≡ run (adding (λ j. dueWords b (now (m .entry)) (getD (now (pt .entry)) j 0) (getD (now (s1 .entry)) j 0))) 0 (from (pageWords b) 0))
         × (r .mapped ≤ 1024)
         × (r .shut ≤ 1024)
-        × (r .due ≤ 13194139538432)
+        × (r .due ≤ 13194139538432))
         ⌝ }
 {
     let mut mapped: u32 = 0;
@@ -81,22 +90,37 @@ pub fn tally_row(b: u32, m: &[u32], pt: &[u32], s1: &[u32]) -> Counts
     while j < pt.len() {
         let w = pt[j];
         let x = read(s1, j);
+        if !mark_hand(b, seen, w, x) {
+            return Swept {
+                marked: false,
+                mapped,
+                shut,
+                due,
+            };
+        }
         mapped += 1;
         shut += shut_bit(w, x);
         due += due_pages(b, m, w, x);
         j = next_word(pt, j + 1);
     }
-    Counts { mapped, shut, due }
+    Swept {
+        marked: true,
+        mapped,
+        shut,
+        due,
+    }
 }
 
 // All rows of d.
-pub fn tally(b: u32, m: &[u32], d: PhysicalPage) -> Counts
+pub fn tally(b: u32, m: &[u32], seen: &mut [u8], d: PhysicalPage) -> Swept
     requires { ⌜ Width b ⌝ }
     ensures { λ r.
         ⌜
-        (r .mapped ≡ mappedCount b (now (m .entry)) (d .0))
+        (marks (now (seen .entry)) (handPages b (now (m .entry)) (d .0)) ≡ answer (r .marked) (now (seen .exit)))
+        × (r .marked ≡ true
+        → (r .mapped ≡ mappedCount b (now (m .entry)) (d .0))
         × (r .shut ≡ shutCount b (now (m .entry)) (d .0))
-        × (r .due ≡ dueCount b (now (m .entry)) (d .0))
+        × (r .due ≡ dueCount b (now (m .entry)) (d .0)))
         ⌝ }
 {
     let dir = words_of(b, m, directory(b, m, d));
@@ -108,13 +132,21 @@ pub fn tally(b: u32, m: &[u32], d: PhysicalPage) -> Counts
     while i < dir.len() {
         let pt = table_of(b, m, dir[i]);
         let s1 = table_of(b, m, read(sh1, i));
-        let t = tally_row(b, m, pt, s1);
+        let t = tally_row(b, m, seen, pt, s1);
+        if !t.marked {
+            return t;
+        }
         mapped += t.mapped;
         shut += t.shut;
         due += t.due;
         i = next_word(dir, i + 1);
     }
-    Counts { mapped, shut, due }
+    Swept {
+        marked: true,
+        mapped,
+        shut,
+        due,
+    }
 }
 
 fn same_bit(x: u32, y: u32) -> u32

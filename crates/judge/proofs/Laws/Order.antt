@@ -1,18 +1,20 @@
--- The test of a partition in the order of the code: the counts before the cells. Assumes nothing.
-use mathlib.Core.Path.{_≡_, refl}
-use mathlib.Core.Bool.{Bool, true, false, _&&_, _||_}
+-- The test of a partition in the order of the code: the forms of its own pages, then the counts, then the cells. Assumes nothing.
+use mathlib.Core.Path.{_≡_, refl, sym, ap, _∙_}
+use mathlib.Core.Bool.{Bool, true, false, not, _&&_, _||_, false≢true}
 use mathlib.Core.List.{List}
-use Prim.Native.Nat.{ℕ}
+use Prim.Native.Nat.{ℕ, _≤_}
 use lib.Dec.{eqb}
 use Rattle.walk.specs.Finite.{from, all}
-use Rattle.memory.specs.Geometry.{pageWords}
+use Rattle.memory.specs.Geometry.{pageWords, mostThrees}
 use Rattle.memory.specs.Words.{word}
-use Rattle.memory.specs.Partition.{parent, mapping}
+use Rattle.memory.specs.Partition.{parent, threes, mapping}
 use Rattle.memory.specs.Counts.{tabled}
 use Rattle.soundness.specs.Test.{descriptorTest, directoryTest, listTest, threesTest}
 use Rattle.judging.specs.Quick.{cell, shutCount, dueCount, lentCount, mappedCount, partitionTest}
+use Rattle.forms.proofs.Laws.Tests.{yes, no, and-false}
+use Rattle.forms.proofs.Laws.Whole.{list-few}
 
-last : (f c p q r : Bool) → f && c && p && q && r ≡ f && p && q && r && c
+last : (f c p q r : Bool) → f && c && p && q && r ≡ f && (p && q && r && c)
 last false c p q r = refl
 last true true true true true = refl
 last true true true true false = refl
@@ -23,11 +25,41 @@ last true false true true false = refl
 last true false true false r = refl
 last true false false q r = refl
 
-pub partition-as : (b : ℕ) (m : List ℕ) (d : ℕ) → partitionTest b m d
-    ≡ descriptorTest b m d && all (directoryTest b m d) (from (pageWords b) 0) && listTest b m d && threesTest b m d
-    && eqb (mapping b m d 0) 0 && eqb (shutCount b m d) (dueCount b m d)
-    && (eqb d 1 || eqb (lentCount b m (parent b m d) (word b m d 0)) (mappedCount b m d)) && all (cell b m d) (tabled b m d)
-unfolding partitionTest
-partition-as b m d =
-    last (descriptorTest b m d && all (directoryTest b m d) (from (pageWords b) 0) && listTest b m d && threesTest b m d) (all (cell b m d) (tabled b m d))
-    (eqb (mapping b m d 0) 0) (eqb (shutCount b m d) (dueCount b m d)) (eqb d 1 || eqb (lentCount b m (parent b m d) (word b m d 0)) (mappedCount b m d))
+module _ (b : ℕ) (m : List ℕ) (d : ℕ) where
+  -- what is asked before the tables are swept; and after, where n pages are mapped, s are neither lent nor accessible, and k are the children's kernel pages
+  abbrev formed : Bool
+  formed = descriptorTest b m d && all (directoryTest b m d) (from (pageWords b) 0) && listTest b m d && threesTest b m d
+
+  abbrev swept : ℕ → ℕ → ℕ → Bool
+  swept n s k =
+      eqb (mapping b m d 0) 0 && eqb s k && (eqb d 1 || eqb (lentCount b m (parent b m d) (word b m d 0)) n) && all (cell b m d) (tabled b m d)
+
+  partition-as : partitionTest b m d ≡ formed && swept (mappedCount b m d) (shutCount b m d) (dueCount b m d)
+  unfolding partitionTest
+  partition-as =
+      last formed (all (cell b m d) (tabled b m d)) (eqb (mapping b m d 0) 0) (eqb (shutCount b m d) (dueCount b m d))
+      (eqb d 1 || eqb (lentCount b m (parent b m d) (word b m d 0)) (mappedCount b m d))
+
+  -- x and y are the code's answers to the two
+  module _ {x : Bool} (e : x ≡ formed) where
+    pub unformed : not x ≡ true → partitionTest b m d ≡ false
+    unformed t = partition-as ∙ ap (λ (f : Bool). f && swept (mappedCount b m d) (shutCount b m d) (dueCount b m d)) (no e t)
+
+    module _ (t : not x ≡ false) where
+      pub few : threes b m d ≤ mostThrees
+      few = go (listTest b m d) refl
+        where
+          never : listTest b m d ≡ false → formed ≡ false
+          never q = rw (q, and-false (descriptorTest b m d && all (directoryTest b m d) (from (pageWords b) 0))) refl
+
+          go : (u : Bool) → listTest b m d ≡ u → threes b m d ≤ mostThrees
+          go true q = list-few b m d q
+          go false q = absurd (false≢true (sym (never q) ∙ yes e t))
+
+      pub tested : {y : Bool} {n s k : ℕ} → (n ≡ mappedCount b m d) × (s ≡ shutCount b m d) × (k ≡ dueCount b m d) → y ≡ swept n s k → y ≡ partitionTest b m d
+      tested {n = n} {s = s} {k = k} (en, es, ek) q =
+          q
+          ∙ ap (λ (i : ℕ). swept i s k) en
+          ∙ ap (λ (i : ℕ). swept (mappedCount b m d) i k) es
+          ∙ ap (λ (i : ℕ). swept (mappedCount b m d) (shutCount b m d) i) ek
+          ∙ sym (partition-as ∙ ap (λ (f : Bool). f && swept (mappedCount b m d) (shutCount b m d) (dueCount b m d)) (yes e t))

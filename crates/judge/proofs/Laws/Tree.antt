@@ -1,46 +1,40 @@
 -- The walk over the tree, and whether current is in it, in the code's terms. Assumes nothing.
 use mathlib.Core.Path.{_≡_, refl, sym, ap, _∙_}
-use mathlib.Core.Bool.{Bool, true, false, not, _&&_, false≢true}
+use mathlib.Core.Bool.{Bool, true, false, not, _&&_}
 use mathlib.Core.List.{List, [], _∷_}
 use mathlib.Core.Logic.{_≢_}
-use mathlib.Core.Option.{Option, some}
-use Prim.Native.Nat.{ℕ, zero, suc, _+_, _-_, _*_, _≤_, _<_}
+use mathlib.Core.Option.{Option, none, some}
+use Prim.Native.Nat.{ℕ, zero, suc, _+_, _-_, _*_, _<_}
 use native.Mathlib.Omega.{arith}
 use lib.Dec.{eqb}
 use borrow.Author.Tests.{eq-eqb, ne-eqb}
 use Rattle.walk.specs.Lists.{sumOf}
-use Rattle.walk.specs.Finite.{from, all}
-use Rattle.walk.specs.Marks.{Seen, each, each-done}
-use Rattle.memory.specs.Geometry.{pageWords, mostThrees}
+use Rattle.walk.specs.Marks.{Seen, each, each-done, marks}
+use Rattle.walk.specs.Walk as W
 use Rattle.memory.specs.Words.{word}
 use Rattle.memory.specs.Partition.{parent, threes, tableFor}
 use Rattle.memory.specs.Counts.{childAt, childOf, children}
-use Rattle.soundness.specs.Test.{virtual, descriptorTest, directoryTest, listTest, placed, under}
-use Rattle.judging.specs.Quick.{dueCount, partitionTest}
-use Rattle.forms.proofs.Laws.Tests.{and-false}
-use Rattle.forms.proofs.Laws.Whole.{list-few}
+use Rattle.soundness.specs.Test.{virtual, placed, under}
+use Rattle.judging.specs.Quick.{dueCount}
 
 none-summed : (f : ℕ → ℕ) (l : List ℕ) → sumOf (λ c. 5 + f c) l ≡ 0 → l ≡ []
 unfolding sumOf
 none-summed f [] e = refl
 none-summed f (c ∷ l) e = absurd (omega arith)
 
+-- where the pages of d cannot be marked, it is refused whatever its test says
+pub judge-unmarked : (kids own : ℕ → List ℕ) (ok : ℕ → Bool) (k : ℕ) (s : Seen) (d : ℕ) → marks s (own d) ≡ none → W.judge kids own ok k s d ≡ none
+judge-unmarked kids own ok k s d e = go (ok d) refl
+  where
+    go : (t : Bool) → ok d ≡ t → W.judge kids own ok k s d ≡ none
+    go true q = W.judge-stop kids own ok k s d q e
+    go false q = W.judge-bad kids own ok k s d q
+
 module _ (b : ℕ) (m : List ℕ) where
   -- where the children of d have no kernel pages there are none, and nothing is to be done for each
   pub no-child : (f : Seen → ℕ → Option Seen) (s : Seen) (d : ℕ) {n : ℕ} → n ≡ dueCount b m d → n ≡ 0 → each f s (children b m d) ≡ some s
   unfolding dueCount
   no-child f s d q z = ap (each f s) (none-summed (λ c. 3 * threes b m c) (children b m d) (sym q ∙ z)) ∙ each-done f s
-
-  -- a partition that passed has few enough threes in its list
-  pub partition-few : (d : ℕ) → partitionTest b m d ≡ true → threes b m d ≤ mostThrees
-  partition-few d e = go (listTest b m d) refl
-    where
-      none : listTest b m d ≡ false → partitionTest b m d ≡ false
-      none q = unfold partitionTest in (rw (q, and-false (descriptorTest b m d && all (directoryTest b m d) (from (pageWords b) 0))) refl)
-
-      go : (t : Bool) → listTest b m d ≡ t → threes b m d ≤ mostThrees
-      go true q = list-few b m d q
-      go false q = absurd (false≢true (sym (none q) ∙ e))
 
   -- up from c, n steps at most
   pub under-root : (n c : ℕ) → c ≡ 1 → true ≡ under b m n c

@@ -10,7 +10,7 @@ use borrow.Author.Tests.{not-true, not-false}
 use Rattle.walk.specs.Finite.{from}
 use Rattle.walk.specs.Marks.{passed, failed, each}
 use Rattle.walk.specs.Walk as W
-use Rattle.walk.specs.Walk.{judge-bad, judge-stop, judge-go, child-none, child-next}
+use Rattle.walk.specs.Walk.{judge-bad, judge-go, child-none, child-next}
 use Rattle.memory.specs.Geometry.{pageWords, pageOf}
 use Rattle.memory.specs.Words.{page}
 use Rattle.memory.specs.Partition.{directory, shadow1, mapping, lent}
@@ -19,7 +19,9 @@ use Rattle.soundness.specs.Test.{own}
 use Rattle.judging.specs.Quick.{partitionTest}
 use Rattle.judge.specs.Run.{run, marking}
 use Rattle.judge.specs.Rows.{used, childWords}
-use Rattle.judge.proofs.Laws.Tree.{no-child, partition-few}
+use Rattle.judge.proofs.Laws.Tree.{judge-unmarked, no-child}
+use Rattle.judge.proofs.Laws.Marks.{own-no, own-yes}
+use Rattle.judge.proofs.Laws.Order.{unformed, few, tested}
 use Rattle.forms.proofs.Laws.Tests.{yes, no}
 use Rattle.judge.proofs.Laws.Search.{next-low, next-high, next-here}
 use Rattle.judge.proofs.Laws.Rows.{rowStep, rows-first, rows-next, rows-end}
@@ -35,8 +37,10 @@ use Rattle.judge.proofs.cycle.judge_partition.Reads as judge-partition
 use Rattle.judge.proofs.cycle.judge_partition.Kinds as judge-partition-kinds
 use Rattle.judge.proofs.cycle.+judge_children+judge_partition.Lts-judge_partition as judge-partition-lts
 use Rattle.judge.proofs.children.next_child.Reads as next-child-reads
-use Rattle.judge.proofs.marks.mark_own.Reads as mark-own-reads
-use Rattle.judge.proofs.partitions.partition_test.Reads as partition-test-reads
+use Rattle.judge.proofs.marks.mark_kernel.Reads as mark-kernel-reads
+use Rattle.judge.proofs.partitions.tables_test.Reads as tables-test-reads
+use Rattle.judge.proofs.tally.tally.Reads as tally-reads
+use Rattle.forms.proofs.forms_test.Reads as forms-test-reads
 use Rattle.judge.proofs.rows.next_word.Reads as next-word-reads
 use Rattle.judge.proofs.rows.table_of.Reads as table-of-reads
 use Rattle.judge.proofs.rows.words_of.Reads as words-of-reads
@@ -1166,105 +1170,252 @@ judge-children-returns-3 t c =
     let e1 = c .before .before .before .words-of2 .ensures ∙ ap (page (s .b) (s .m .now)) (c .before .before .before .before .shadow1 .ensures) in
     rows-end (s .b) (s .m .now) (childStep (s .b) (s .m .now) (s .d .0) (W.child (children (s .b) (s .m .now)) (own (s .b) (s .m .now)) (partitionTest (s .b) (s .m .now)) (s .left))) (s .d .0) (c .before .before .before .before .before .words-of .result .now) e (some (c .before .loop .seen)) (c .loop-test .left) (c .before .loop .inv .3 (s .d .0) e e1)
 
-judge-partition-partition-test-requires : (t : ℕ) → judge-partition-lts.Need-partition-test-requires (
-  partition-test-reads.Asked,
-  partition-test-reads.Learnt,
-  mark-own-reads.Asked,
-  mark-own-reads.Learnt,
+judge-partition-forms-test-requires : (t : ℕ) → judge-partition-lts.Need-forms-test-requires (
+  forms-test-reads.Asked,
+  forms-test-reads.Learnt,
+  mark-kernel-reads.Asked,
+  mark-kernel-reads.Learnt,
+  tally-reads.Asked,
+  tally-reads.Learnt,
+  tables-test-reads.Asked,
+  tables-test-reads.Learnt,
   judge-children-below t,
   judge-children.Post,
 ) (judge-partition-at t) judge-partition.Post
-judge-partition-partition-test-requires t c κs = search needs
+judge-partition-forms-test-requires t c κs = search needs
 
 judge-partition-returns : (t : ℕ) → judge-partition-lts.Need-returns (
-  partition-test-reads.Asked,
-  partition-test-reads.Learnt,
-  mark-own-reads.Asked,
-  mark-own-reads.Learnt,
+  forms-test-reads.Asked,
+  forms-test-reads.Learnt,
+  mark-kernel-reads.Asked,
+  mark-kernel-reads.Learnt,
+  tally-reads.Asked,
+  tally-reads.Learnt,
+  tables-test-reads.Asked,
+  tables-test-reads.Learnt,
   judge-children-below t,
   judge-children.Post,
 ) (judge-partition-at t) judge-partition.Post
-judge-partition-returns t c = judge-bad _ _ _ _ _ _ (no (c .before .before .partition-test .ensures .0) (c .if1 .taken))
+judge-partition-returns t c =
+    let s = c .before .before .before .before .args in
+    judge-bad _ _ _ _ _ _ (unformed (s .b) (s .m .now) (s .d .0) (c .before .forms-test .ensures) (c .if1 .taken))
 
-judge-partition-mark-own-requires : (t : ℕ) → judge-partition-lts.Need-mark-own-requires (
-  partition-test-reads.Asked,
-  partition-test-reads.Learnt,
-  mark-own-reads.Asked,
-  mark-own-reads.Learnt,
+judge-partition-mark-kernel-requires : (t : ℕ) → judge-partition-lts.Need-mark-kernel-requires (
+  forms-test-reads.Asked,
+  forms-test-reads.Learnt,
+  mark-kernel-reads.Asked,
+  mark-kernel-reads.Learnt,
+  tally-reads.Asked,
+  tally-reads.Learnt,
+  tables-test-reads.Asked,
+  tables-test-reads.Learnt,
   judge-children-below t,
   judge-children.Post,
 ) (judge-partition-at t) judge-partition.Post
-judge-partition-mark-own-requires t c κs = (c .before .before .before .before .before .before .pre .1, partition-few (c .before .before .before .before .before .before .args .b) (c .before .before .before .before .before .before .args .m .now) (c .before .before .before .before .before .before .args .d .0) (yes (c .before .before .before .partition-test .ensures .0) (c .before .if1 .left)))
+judge-partition-mark-kernel-requires t c κs =
+    let s = c .before .before .before .before .before .args in
+    (c .before .before .before .before .before .pre .1, few (s .b) (s .m .now) (s .d .0) (c .before .before .forms-test .ensures) (c .before .if1 .left))
 
 judge-partition-same-length : (t : ℕ) → judge-partition-lts.Need-same-length (
-  partition-test-reads.Asked,
-  partition-test-reads.Learnt,
-  mark-own-reads.Asked,
-  mark-own-reads.Learnt,
+  forms-test-reads.Asked,
+  forms-test-reads.Learnt,
+  mark-kernel-reads.Asked,
+  mark-kernel-reads.Learnt,
+  tally-reads.Asked,
+  tally-reads.Learnt,
+  tables-test-reads.Asked,
+  tables-test-reads.Learnt,
   judge-children-below t,
   judge-children.Post,
 ) (judge-partition-at t) judge-partition.Post
 judge-partition-same-length t c = search needs
 
 judge-partition-returns-2 : (t : ℕ) → judge-partition-lts.Need-returns-2 (
-  partition-test-reads.Asked,
-  partition-test-reads.Learnt,
-  mark-own-reads.Asked,
-  mark-own-reads.Learnt,
+  forms-test-reads.Asked,
+  forms-test-reads.Learnt,
+  mark-kernel-reads.Asked,
+  mark-kernel-reads.Learnt,
+  tally-reads.Asked,
+  tally-reads.Learnt,
+  tables-test-reads.Asked,
+  tables-test-reads.Learnt,
   judge-children-below t,
   judge-children.Post,
 ) (judge-partition-at t) judge-partition.Post
-judge-partition-returns-2 t c = judge-stop _ _ _ _ _ _ (yes (c .before .before .before .before .before .before .before .partition-test .ensures .0) (c .before .before .before .before .before .if1 .left)) (failed _ (c .before .before .before .mark-own .result) (c .before .before .before .mark-own .last .1 .1 .0) (c .before .before .before .mark-own .ensures) (not-true _ (c .if2 .taken)))
+judge-partition-returns-2 t c =
+    let s = c .before .before .before .before .before .before .before .before .before .args in
+    judge-unmarked _ _ _ _ _ _ (own-no (s .b) (s .m .now) (s .d .0) (s .seen .now) (failed _ (c .before .before .before .mark-kernel .result) (c .before .before .before .mark-kernel .last .1 .1 .0) (c .before .before .before .mark-kernel .ensures) (not-true _ (c .if2 .taken))))
+
+judge-partition-tally-requires : (t : ℕ) → judge-partition-lts.Need-tally-requires (
+  forms-test-reads.Asked,
+  forms-test-reads.Learnt,
+  mark-kernel-reads.Asked,
+  mark-kernel-reads.Learnt,
+  tally-reads.Asked,
+  tally-reads.Learnt,
+  tables-test-reads.Asked,
+  tables-test-reads.Learnt,
+  judge-children-below t,
+  judge-children.Post,
+) (judge-partition-at t) judge-partition.Post
+judge-partition-tally-requires t c κs = search needs
 
 judge-partition-same-length-2 : (t : ℕ) → judge-partition-lts.Need-same-length-2 (
-  partition-test-reads.Asked,
-  partition-test-reads.Learnt,
-  mark-own-reads.Asked,
-  mark-own-reads.Learnt,
+  forms-test-reads.Asked,
+  forms-test-reads.Learnt,
+  mark-kernel-reads.Asked,
+  mark-kernel-reads.Learnt,
+  tally-reads.Asked,
+  tally-reads.Learnt,
+  tables-test-reads.Asked,
+  tables-test-reads.Learnt,
   judge-children-below t,
   judge-children.Post,
 ) (judge-partition-at t) judge-partition.Post
 judge-partition-same-length-2 t c = search needs
 
 judge-partition-returns-3 : (t : ℕ) → judge-partition-lts.Need-returns-3 (
-  partition-test-reads.Asked,
-  partition-test-reads.Learnt,
-  mark-own-reads.Asked,
-  mark-own-reads.Learnt,
+  forms-test-reads.Asked,
+  forms-test-reads.Learnt,
+  mark-kernel-reads.Asked,
+  mark-kernel-reads.Learnt,
+  tally-reads.Asked,
+  tally-reads.Learnt,
+  tables-test-reads.Asked,
+  tables-test-reads.Learnt,
   judge-children-below t,
   judge-children.Post,
 ) (judge-partition-at t) judge-partition.Post
-judge-partition-returns-3 t c = judge-go _ _ _ _ _ _ (c .before .before .before .before .before .mark-own .last .1 .1 .0) (yes (c .before .before .before .before .before .before .before .before .before .partition-test .ensures .0) (c .before .before .before .before .before .before .before .if1 .left)) (passed _ (c .before .before .before .before .before .mark-own .result) _ (c .before .before .before .before .before .mark-own .ensures) (not-false _ (c .before .before .if2 .left))) ∙ no-child (c .before .before .before .before .before .before .before .before .before .before .before .before .args .b) (c .before .before .before .before .before .before .before .before .before .before .before .before .args .m .now) _ (c .before .before .before .before .before .mark-own .last .1 .1 .0) (c .before .before .before .before .before .before .before .before .before .before .before .before .args .d .0) (c .before .before .before .before .before .before .before .before .before .partition-test .ensures .1 (not-false _ (c .before .before .before .before .before .before .before .if1 .left))) (c .if3 .taken)
+judge-partition-returns-3 t c =
+    let s = c .before .before .before .before .before .before .before .before .before .before .before .before .before .before .before .args in
+    let kernel = passed _ (c .before .before .before .before .before .before .before .before .before .mark-kernel .result) (c .before .before .before .before .before .before .before .before .before .mark-kernel .last .1 .1 .0) (c .before .before .before .before .before .before .before .before .before .mark-kernel .ensures) (not-false _ (c .before .before .before .before .before .before .if2 .left)) in
+    let hands = failed _ (c .before .before .before .before .tally .result .marked) (c .before .before .before .before .tally .last .1 .1 .0) (c .before .before .before .before .tally .ensures .0) (not-true _ (c .if3 .taken)) in
+    judge-unmarked _ _ _ _ _ _ (own-yes (s .b) (s .m .now) (s .d .0) (s .seen .now) (c .before .before .before .before .before .before .before .before .before .mark-kernel .last .1 .1 .0) kernel ∙ hands)
 
-judge-partition-judge-children-requires : (t : ℕ) → judge-partition-lts.Need-judge-children-requires (
-  partition-test-reads.Asked,
-  partition-test-reads.Learnt,
-  mark-own-reads.Asked,
-  mark-own-reads.Learnt,
+judge-partition-tables-test-requires : (t : ℕ) → judge-partition-lts.Need-tables-test-requires (
+  forms-test-reads.Asked,
+  forms-test-reads.Learnt,
+  mark-kernel-reads.Asked,
+  mark-kernel-reads.Learnt,
+  tally-reads.Asked,
+  tally-reads.Learnt,
+  tables-test-reads.Asked,
+  tables-test-reads.Learnt,
   judge-children-below t,
   judge-children.Post,
 ) (judge-partition-at t) judge-partition.Post
-judge-partition-judge-children-requires t c κs = search needs
+judge-partition-tables-test-requires t c κs = search needs
 
 judge-partition-same-length-3 : (t : ℕ) → judge-partition-lts.Need-same-length-3 (
-  partition-test-reads.Asked,
-  partition-test-reads.Learnt,
-  mark-own-reads.Asked,
-  mark-own-reads.Learnt,
+  forms-test-reads.Asked,
+  forms-test-reads.Learnt,
+  mark-kernel-reads.Asked,
+  mark-kernel-reads.Learnt,
+  tally-reads.Asked,
+  tally-reads.Learnt,
+  tables-test-reads.Asked,
+  tables-test-reads.Learnt,
   judge-children-below t,
   judge-children.Post,
 ) (judge-partition-at t) judge-partition.Post
 judge-partition-same-length-3 t c = search needs
 
 judge-partition-returns-4 : (t : ℕ) → judge-partition-lts.Need-returns-4 (
-  partition-test-reads.Asked,
-  partition-test-reads.Learnt,
-  mark-own-reads.Asked,
-  mark-own-reads.Learnt,
+  forms-test-reads.Asked,
+  forms-test-reads.Learnt,
+  mark-kernel-reads.Asked,
+  mark-kernel-reads.Learnt,
+  tally-reads.Asked,
+  tally-reads.Learnt,
+  tables-test-reads.Asked,
+  tables-test-reads.Learnt,
   judge-children-below t,
   judge-children.Post,
 ) (judge-partition-at t) judge-partition.Post
-judge-partition-returns-4 t c = judge-go _ _ _ _ _ _ (c .before .before .before .before .before .before .before .before .before .mark-own .last .1 .1 .0) (yes (c .before .before .before .before .before .before .before .before .before .before .before .before .before .partition-test .ensures .0) (c .before .before .before .before .before .before .before .before .before .before .before .if1 .left)) (passed _ (c .before .before .before .before .before .before .before .before .before .mark-own .result) _ (c .before .before .before .before .before .before .before .before .before .mark-own .ensures) (not-false _ (c .before .before .before .before .before .before .if2 .left))) ∙ c .before .before .judge-children .ensures
+judge-partition-returns-4 t c =
+    let s = c .before .before .before .before .before .before .before .before .before .before .before .before .before .before .before .before .before .args in
+    let counts = c .before .before .before .before .before .before .tally .ensures .1 (not-false _ (c .before .before .if3 .left)) in
+    judge-bad _ _ _ _ _ _ (no (tested (s .b) (s .m .now) (s .d .0) (c .before .before .before .before .before .before .before .before .before .before .before .before .before .before .forms-test .ensures) (c .before .before .before .before .before .before .before .before .before .before .before .before .before .if1 .left) counts (c .before .tables-test .ensures)) (c .if4 .taken))
+
+judge-partition-same-length-4 : (t : ℕ) → judge-partition-lts.Need-same-length-4 (
+  forms-test-reads.Asked,
+  forms-test-reads.Learnt,
+  mark-kernel-reads.Asked,
+  mark-kernel-reads.Learnt,
+  tally-reads.Asked,
+  tally-reads.Learnt,
+  tables-test-reads.Asked,
+  tables-test-reads.Learnt,
+  judge-children-below t,
+  judge-children.Post,
+) (judge-partition-at t) judge-partition.Post
+judge-partition-same-length-4 t c = search needs
+
+judge-partition-returns-5 : (t : ℕ) → judge-partition-lts.Need-returns-5 (
+  forms-test-reads.Asked,
+  forms-test-reads.Learnt,
+  mark-kernel-reads.Asked,
+  mark-kernel-reads.Learnt,
+  tally-reads.Asked,
+  tally-reads.Learnt,
+  tables-test-reads.Asked,
+  tables-test-reads.Learnt,
+  judge-children-below t,
+  judge-children.Post,
+) (judge-partition-at t) judge-partition.Post
+judge-partition-returns-5 t c =
+    let s = c .before .before .before .before .before .before .before .before .before .before .before .before .before .before .before .before .before .before .before .args in
+    let kernel = passed _ (c .before .before .before .before .before .before .before .before .before .before .before .before .before .mark-kernel .result) (c .before .before .before .before .before .before .before .before .before .before .before .before .before .mark-kernel .last .1 .1 .0) (c .before .before .before .before .before .before .before .before .before .before .before .before .before .mark-kernel .ensures) (not-false _ (c .before .before .before .before .before .before .before .before .before .before .if2 .left)) in
+    let hands = passed _ (c .before .before .before .before .before .before .before .before .tally .result .marked) (c .before .before .before .before .before .before .before .before .tally .last .1 .1 .0) (c .before .before .before .before .before .before .before .before .tally .ensures .0) (not-false _ (c .before .before .before .before .if3 .left)) in
+    let counts = c .before .before .before .before .before .before .before .before .tally .ensures .1 (not-false _ (c .before .before .before .before .if3 .left)) in
+    judge-go _ _ _ _ _ _ (c .before .before .before .before .before .before .before .before .tally .last .1 .1 .0) (yes (tested (s .b) (s .m .now) (s .d .0) (c .before .before .before .before .before .before .before .before .before .before .before .before .before .before .before .before .forms-test .ensures) (c .before .before .before .before .before .before .before .before .before .before .before .before .before .before .before .if1 .left) counts (c .before .before .before .tables-test .ensures)) (c .before .before .if4 .left)) (own-yes (s .b) (s .m .now) (s .d .0) (s .seen .now) (c .before .before .before .before .before .before .before .before .before .before .before .before .before .mark-kernel .last .1 .1 .0) kernel ∙ hands) ∙ no-child (s .b) (s .m .now) _ (c .before .before .before .before .before .before .before .before .tally .last .1 .1 .0) (s .d .0) (counts .2) (c .if5 .taken)
+
+judge-partition-judge-children-requires : (t : ℕ) → judge-partition-lts.Need-judge-children-requires (
+  forms-test-reads.Asked,
+  forms-test-reads.Learnt,
+  mark-kernel-reads.Asked,
+  mark-kernel-reads.Learnt,
+  tally-reads.Asked,
+  tally-reads.Learnt,
+  tables-test-reads.Asked,
+  tables-test-reads.Learnt,
+  judge-children-below t,
+  judge-children.Post,
+) (judge-partition-at t) judge-partition.Post
+judge-partition-judge-children-requires t c κs = search needs
+
+judge-partition-same-length-5 : (t : ℕ) → judge-partition-lts.Need-same-length-5 (
+  forms-test-reads.Asked,
+  forms-test-reads.Learnt,
+  mark-kernel-reads.Asked,
+  mark-kernel-reads.Learnt,
+  tally-reads.Asked,
+  tally-reads.Learnt,
+  tables-test-reads.Asked,
+  tables-test-reads.Learnt,
+  judge-children-below t,
+  judge-children.Post,
+) (judge-partition-at t) judge-partition.Post
+judge-partition-same-length-5 t c = search needs
+
+judge-partition-returns-6 : (t : ℕ) → judge-partition-lts.Need-returns-6 (
+  forms-test-reads.Asked,
+  forms-test-reads.Learnt,
+  mark-kernel-reads.Asked,
+  mark-kernel-reads.Learnt,
+  tally-reads.Asked,
+  tally-reads.Learnt,
+  tables-test-reads.Asked,
+  tables-test-reads.Learnt,
+  judge-children-below t,
+  judge-children.Post,
+) (judge-partition-at t) judge-partition.Post
+judge-partition-returns-6 t c =
+    let s = c .before .before .before .before .before .before .before .before .before .before .before .before .before .before .before .before .before .before .before .before .before .before .before .args in
+    let kernel = passed _ (c .before .before .before .before .before .before .before .before .before .before .before .before .before .before .before .before .before .mark-kernel .result) (c .before .before .before .before .before .before .before .before .before .before .before .before .before .before .before .before .before .mark-kernel .last .1 .1 .0) (c .before .before .before .before .before .before .before .before .before .before .before .before .before .before .before .before .before .mark-kernel .ensures) (not-false _ (c .before .before .before .before .before .before .before .before .before .before .before .before .before .before .if2 .left)) in
+    let hands = passed _ (c .before .before .before .before .before .before .before .before .before .before .before .before .tally .result .marked) (c .before .before .before .before .before .before .before .before .before .before .before .before .tally .last .1 .1 .0) (c .before .before .before .before .before .before .before .before .before .before .before .before .tally .ensures .0) (not-false _ (c .before .before .before .before .before .before .before .before .if3 .left)) in
+    let counts = c .before .before .before .before .before .before .before .before .before .before .before .before .tally .ensures .1 (not-false _ (c .before .before .before .before .before .before .before .before .if3 .left)) in
+    judge-go _ _ _ _ _ _ (c .before .before .before .before .before .before .before .before .before .before .before .before .tally .last .1 .1 .0) (yes (tested (s .b) (s .m .now) (s .d .0) (c .before .before .before .before .before .before .before .before .before .before .before .before .before .before .before .before .before .before .before .before .forms-test .ensures) (c .before .before .before .before .before .before .before .before .before .before .before .before .before .before .before .before .before .before .before .if1 .left) counts (c .before .before .before .before .before .before .before .tables-test .ensures)) (c .before .before .before .before .before .before .if4 .left)) (own-yes (s .b) (s .m .now) (s .d .0) (s .seen .now) (c .before .before .before .before .before .before .before .before .before .before .before .before .before .before .before .before .before .mark-kernel .last .1 .1 .0) kernel ∙ hands) ∙ c .before .before .judge-children .ensures
 
 pub +judge-children+judge-partition-spec : {M : Type 1} → statement M
 +judge-children+judge-partition-spec =
@@ -1330,22 +1481,32 @@ pub +judge-children+judge-partition-spec : {M : Type 1} → statement M
     (judge-children-same-length-3 t)
     (judge-children-returns-3 t))
     λ t. judge-partition-lts.spec (
-      partition-test-reads.Asked,
-      partition-test-reads.Learnt,
-      mark-own-reads.Asked,
-      mark-own-reads.Learnt,
+      forms-test-reads.Asked,
+      forms-test-reads.Learnt,
+      mark-kernel-reads.Asked,
+      mark-kernel-reads.Learnt,
+      tally-reads.Asked,
+      tally-reads.Learnt,
+      tables-test-reads.Asked,
+      tables-test-reads.Learnt,
       judge-children-below t,
       judge-children.Post,
     )
     (judge-partition-at t)
     judge-partition.Post
-    (judge-partition-partition-test-requires t)
+    (judge-partition-forms-test-requires t)
     (judge-partition-returns t)
-    (judge-partition-mark-own-requires t)
+    (judge-partition-mark-kernel-requires t)
     (judge-partition-same-length t)
     (judge-partition-returns-2 t)
+    (judge-partition-tally-requires t)
     (judge-partition-same-length-2 t)
     (judge-partition-returns-3 t)
-    (judge-partition-judge-children-requires t)
+    (judge-partition-tables-test-requires t)
     (judge-partition-same-length-3 t)
     (judge-partition-returns-4 t)
+    (judge-partition-same-length-4 t)
+    (judge-partition-returns-5 t)
+    (judge-partition-judge-children-requires t)
+    (judge-partition-same-length-5 t)
+    (judge-partition-returns-6 t)

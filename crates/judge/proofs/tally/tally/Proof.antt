@@ -1,123 +1,118 @@
 use Prim.Native.Nat.{ℕ, _+_, _-_, _*_, _≤_, _<_}
-use mathlib.Core.Path.{_≡_, sym, ap, _∙_}
+use mathlib.Core.Path.{_≡_, refl, sym, ap, _∙_, subst}
 use native.Mathlib.Omega.{arith}
 use lib.ListN.{length, getD}
 use Rattle.walk.specs.Finite.{from}
-use Rattle.memory.specs.Geometry.{pageWords}
+use Rattle.walk.specs.Marks.{answer, marks, mark, passed, failed}
+use Rattle.memory.specs.Geometry.{pageWords, pageOf}
 use Rattle.memory.specs.Words.{page}
-use Rattle.memory.specs.Partition.{directory, shadow1}
+use Rattle.memory.specs.Partition.{directory, shadow1, mapping, inHand}
 use Rattle.memory.proofs.Widths.{words-most}
 use Rattle.judge.specs.Rows.{used}
 use Rattle.judge.proofs.Laws.Search.{next-low, next-high, next-here}
-use mathlib.Core.Bool.{true}
+use mathlib.Core.Bool.{Bool, true, false≢true}
+use mathlib.Core.Option.{some}
+use borrow.Author.Tests.{not-true, not-false}
 use mathlib.Core.List.{List}
-use mathlib.Core.Path.{subst}
+use Rattle.soundness.specs.Test.{handPages}
 use Rattle.judging.specs.Quick.{mappedCount, shutCount, dueCount}
 use Rattle.judge.specs.Run.{run, adding}
 use Rattle.judge.proofs.Laws.Rows.{rowStep, rows-first, rows-next, rows-end, table-short, dir-short}
-use Rattle.judge.proofs.Laws.Sweeps.{mappedAt, shutAt, dueAt, mapped-run, shut-run, due-run, mapped-row, shut-row, due-row}
+use Rattle.judge.proofs.Laws.Sweeps.{mappedAt, shutAt, dueAt, handAt, mapped-run, shut-run, due-run, hands-run, mapped-row, shut-row, due-row, hands-row}
+use Rattle.judge.proofs.Laws.Walks.{rows-stop}
 use borrow.Author.Needs.{needs}
 use Rattle.judge.proofs.tally.tally.Statement.{statement}
 use Rattle.judge.proofs.tally.tally.Tie as tie
 
 abbrev Inv-loop : tie.InvT-loop
-Inv-loop b m dir sh1 mapped₀ shut₀ due₀ i₀ mapped shut due i = (i ≤ length dir) × (i < length dir → used dir i ≡ true) × (mapped ≤ 1024 * i) × (shut ≤ 1024 * i) × (due ≤ 13194139538432 * i) × ((d : ℕ) → dir ≡ page b m (directory b m d) → sh1 ≡ page b m (shadow1 b m d) → (mappedCount b m d ≡ run (rowStep b m (adding (mappedAt b m d)) d) mapped (from (pageWords b - i) i)) × (shutCount b m d ≡ run (rowStep b m (adding (shutAt b m d)) d) shut (from (pageWords b - i) i)) × (dueCount b m d ≡ run (rowStep b m (adding (dueAt b m d)) d) due (from (pageWords b - i) i)))
+Inv-loop b m seen₀ dir sh1 mapped₀ shut₀ due₀ i₀ seen mapped shut due i = (i ≤ length dir) × (i < length dir → used dir i ≡ true) × (mapped ≤ 1024 * i) × (shut ≤ 1024 * i) × (due ≤ 13194139538432 * i) × ((d : ℕ) → dir ≡ page b m (directory b m d) → sh1 ≡ page b m (shadow1 b m d) → (mappedCount b m d ≡ run (rowStep b m (adding (mappedAt b m d)) d) mapped (from (pageWords b - i) i)) × (shutCount b m d ≡ run (rowStep b m (adding (shutAt b m d)) d) shut (from (pageWords b - i) i)) × (dueCount b m d ≡ run (rowStep b m (adding (dueAt b m d)) d) due (from (pageWords b - i) i)) × (marks seen₀ (handPages b m d) ≡ run (rowStep b m (handAt b m d) d) (some seen) (from (pageWords b - i) i))) × (length seen ≡ length seen₀)
 
 abbrev μ-loop : tie.MeasureT-loop
-μ-loop b m dir sh1 mapped₀ shut₀ due₀ i₀ mapped shut due i = length dir - i
+μ-loop b m seen₀ dir sh1 mapped₀ shut₀ due₀ i₀ seen mapped shut due i = length dir - i
 
--- src/tally.rt:102:30
 directory-requires : tie.Need-directory-requires Inv-loop μ-loop
 directory-requires c κs = search needs
 
--- src/tally.rt:102:9
 words-of-requires : tie.Need-words-of-requires Inv-loop μ-loop
 words-of-requires c κs = search needs
 
--- src/tally.rt:103:30
 shadow1-requires : tie.Need-shadow1-requires Inv-loop μ-loop
 shadow1-requires c κs = search needs
 
--- src/tally.rt:103:9
 words-of-requires-2 : tie.Need-words-of-requires-2 Inv-loop μ-loop
 words-of-requires-2 c κs = search needs
 
--- src/tally.rt:107:9
 next-word-requires : tie.Need-next-word-requires Inv-loop μ-loop
 next-word-requires c κs = search needs
 
--- src/tally.rt:108:5
 loop-holds : tie.Need-loop-holds Inv-loop μ-loop
-loop-holds c =
-    let s = c .before .before .before .before .before .before .args in
+loop-holds c = let s = c .before .before .before .before .before .before .before .args in
     let dir = c .before .before .before .words-of .result .now in
-    (next-high (used dir) (length dir) 0 (omega arith) (c .next-word .ensures), next-here (used dir) (length dir) 0 (omega arith) (c .next-word .ensures), omega arith, omega arith, omega arith, λ d e e1. (rows-first (s .b) (s .m .now) (adding (mappedAt (s .b) (s .m .now) d)) d dir e 0 (mapped-run (s .b) (s .m .now) d) (c .next-word .ensures), rows-first (s .b) (s .m .now) (adding (shutAt (s .b) (s .m .now) d)) d dir e 0 (shut-run (s .b) (s .m .now) d) (c .next-word .ensures), rows-first (s .b) (s .m .now) (adding (dueAt (s .b) (s .m .now) d)) d dir e 0 (due-run (s .b) (s .m .now) d) (c .next-word .ensures)))
+    (next-high (used dir) (length dir) 0 (omega arith) (c .next-word .ensures), next-here (used dir) (length dir) 0 (omega arith) (c .next-word .ensures), omega arith, omega arith, omega arith, (λ d e e1. (rows-first (s .b) (s .m .now) (adding (mappedAt (s .b) (s .m .now) d)) d dir e 0 (mapped-run (s .b) (s .m .now) d) (c .next-word .ensures), rows-first (s .b) (s .m .now) (adding (shutAt (s .b) (s .m .now) d)) d dir e 0 (shut-run (s .b) (s .m .now) d) (c .next-word .ensures), rows-first (s .b) (s .m .now) (adding (dueAt (s .b) (s .m .now) d)) d dir e 0 (due-run (s .b) (s .m .now) d) (c .next-word .ensures), rows-first (s .b) (s .m .now) (handAt (s .b) (s .m .now) d) d dir e (some (s .seen .now)) (hands-run (s .b) (s .m .now) d (s .seen .now)) (c .next-word .ensures))), refl)
 
--- src/tally.rt:109:33
 mul-table-of : tie.Need-mul-table-of Inv-loop μ-loop
 mul-table-of c = search needs
 
--- src/tally.rt:109:33
 shared-slice-read-table-of : tie.Need-shared-slice-read-table-of Inv-loop μ-loop
 shared-slice-read-table-of c = search needs
 
--- src/tally.rt:109:13
 table-of-requires : tie.Need-table-of-requires Inv-loop μ-loop
 table-of-requires c κs = search needs
 
--- src/tally.rt:110:33
 read-requires : tie.Need-read-requires Inv-loop μ-loop
 read-requires c κs = search needs
 
--- src/tally.rt:110:13
 table-of-requires-2 : tie.Need-table-of-requires-2 Inv-loop μ-loop
 table-of-requires-2 c κs = search needs
 
--- src/tally.rt:111:13
 tally-row-requires : tie.Need-tally-row-requires Inv-loop μ-loop
-tally-row-requires c κs = (c .before .before .before .before .before .before .before .before .before .before .before .before .pre, subst (λ (t : List ℕ). length t ≤ pageWords (c .before .before .before .before .before .before .before .before .before .before .before .before .args .b)) (sym (c .before .before .table-of .ensures)) (table-short (c .before .before .before .before .before .before .before .before .before .before .before .before .args .b) (c .before .before .before .before .before .before .before .before .before .before .before .before .args .m .now) (getD (c .before .before .before .before .before .before .before .before .before .words-of .result .now) (c .before .before .before .before .before .loop .i) 0)))
+tally-row-requires c κs = (c .before .before .before .before .before .before .before .before .before .before .before .before .before .before .pre, subst (λ (t : List ℕ). length t ≤ pageWords (c .before .before .before .before .before .before .before .before .before .before .before .before .before .before .args .b)) (sym (c .before .before .before .table-of .ensures)) (table-short (c .before .before .before .before .before .before .before .before .before .before .before .before .before .before .args .b) (c .before .before .before .before .before .before .before .before .before .before .before .before .before .before .args .m .now) (getD (c .before .before .before .before .before .before .before .before .before .before .words-of .result .now) (c .before .before .before .before .before .before .loop .i) 0)))
 
--- src/tally.rt:112:9
+same-length : tie.Need-same-length Inv-loop μ-loop
+same-length c = search needs
+
+returns : tie.Need-returns Inv-loop μ-loop
+returns c =
+    let s = c .before .before .before .before .before .before .before .before .before .before .before .before .before .before .before .before .before .before .before .args in
+    let e = c .before .before .before .before .before .before .before .before .before .before .before .before .before .before .before .words-of .ensures ∙ ap (page (s .b) (s .m .now)) (c .before .before .before .before .before .before .before .before .before .before .before .before .before .before .before .before .directory .ensures) in
+    let e1 = c .before .before .before .before .before .before .before .before .before .before .before .before .before .words-of2 .ensures ∙ ap (page (s .b) (s .m .now)) (c .before .before .before .before .before .before .before .before .before .before .before .before .before .before .shadow1 .ensures) in
+    let marked = not-true (c .before .before .before .before .tally-row .result .marked) (c .if1 .taken) in
+    (rows-stop (s .b) (s .m .now) (inHand (s .b) (s .m .now) (s .d .0)) (λ t v. mark t (pageOf (s .b) (mapping (s .b) (s .m .now) (s .d .0) v))) (s .d .0) (c .before .before .before .before .before .before .before .before .before .before .before .before .before .before .before .words-of .result .now) e (c .before .before .before .before .before .before .before .before .before .before .before .loop .i) (some (c .before .before .before .before .before .before .before .before .before .before .before .loop .seen)) (c .before .before .before .before .before .before .before .before .before .before .loop-test .taken) (hands-row (s .b) (s .m .now) (s .d .0) (c .before .before .before .before .before .before .before .before .before .before .before .loop .i) e (c .before .before .before .before .before .before .before .before .before .before .loop-test .taken) (c .before .before .before .before .before .before .before .before .before .before .before .loop .inv .1 (c .before .before .before .before .before .before .before .before .before .before .loop-test .taken)) (c .before .before .before .before .before .before .before .before .table-of .ensures) e1 (c .before .before .before .before .before .before .before .read .ensures) (c .before .before .before .before .before .before .table-of2 .ensures) (some (c .before .before .before .before .before .before .before .before .before .before .before .loop .seen)) ∙ failed _ (c .before .before .before .before .tally-row .result .marked) (c .before .before .before .before .tally-row .last .1 .1 .0) (c .before .before .before .before .tally-row .ensures .0) marked) (c .before .before .before .before .before .before .before .before .before .before .before .loop .inv .5 (s .d .0) e e1 .3) ∙ sym (ap (λ (t : Bool). answer t (c .before .before .before .before .tally-row .last .1 .1 .0)) marked), λ z. absurd (false≢true (sym marked ∙ z)))
+
 add-mapped : tie.Need-add-mapped Inv-loop μ-loop
-add-mapped c = omega (arith, c .before .tally-row .ensures .3, c .before .before .before .before .before .before .before .loop .inv .2, c .before .before .before .before .before .before .loop-test .taken, dir-short (c .before .before .before .before .before .before .before .before .before .before .before .before .before .before .args .b) (c .before .before .before .before .before .before .before .before .before .before .before .before .before .before .args .m .now) (c .before .before .before .before .before .before .before .before .before .before .before .before .directory .result .0) (c .before .before .before .before .before .before .before .before .before .before .before .words-of .ensures), words-most (c .before .before .before .before .before .before .before .before .before .before .before .before .before .before .args .b) (c .before .before .before .before .before .before .before .before .before .before .before .before .before .before .pre .1))
+add-mapped c = omega (arith, c .before .before .before .before .before .tally-row .ensures .1 (not-false _ (c .before .if1 .left)) .3, c .before .before .before .before .before .before .before .before .before .before .before .before .loop .inv .2, c .before .before .before .before .before .before .before .before .before .before .before .loop-test .taken, dir-short (c .before .before .before .before .before .before .before .before .before .before .before .before .before .before .before .before .before .before .before .before .args .b) (c .before .before .before .before .before .before .before .before .before .before .before .before .before .before .before .before .before .before .before .before .args .m .now) (c .before .before .before .before .before .before .before .before .before .before .before .before .before .before .before .before .before .directory .result .0) (c .before .before .before .before .before .before .before .before .before .before .before .before .before .before .before .before .words-of .ensures), words-most (c .before .before .before .before .before .before .before .before .before .before .before .before .before .before .before .before .before .before .before .before .args .b) (c .before .before .before .before .before .before .before .before .before .before .before .before .before .before .before .before .before .before .before .before .pre .1))
 
--- src/tally.rt:113:9
 add-shut : tie.Need-add-shut Inv-loop μ-loop
-add-shut c = omega (arith, c .before .before .tally-row .ensures .4, c .before .before .before .before .before .before .before .before .loop .inv .3, c .before .before .before .before .before .before .before .loop-test .taken, dir-short (c .before .before .before .before .before .before .before .before .before .before .before .before .before .before .before .args .b) (c .before .before .before .before .before .before .before .before .before .before .before .before .before .before .before .args .m .now) (c .before .before .before .before .before .before .before .before .before .before .before .before .before .directory .result .0) (c .before .before .before .before .before .before .before .before .before .before .before .before .words-of .ensures), words-most (c .before .before .before .before .before .before .before .before .before .before .before .before .before .before .before .args .b) (c .before .before .before .before .before .before .before .before .before .before .before .before .before .before .before .pre .1))
+add-shut c = omega (arith, c .before .before .before .before .before .before .tally-row .ensures .1 (not-false _ (c .before .before .if1 .left)) .4, c .before .before .before .before .before .before .before .before .before .before .before .before .before .loop .inv .3, c .before .before .before .before .before .before .before .before .before .before .before .before .loop-test .taken, dir-short (c .before .before .before .before .before .before .before .before .before .before .before .before .before .before .before .before .before .before .before .before .before .args .b) (c .before .before .before .before .before .before .before .before .before .before .before .before .before .before .before .before .before .before .before .before .before .args .m .now) (c .before .before .before .before .before .before .before .before .before .before .before .before .before .before .before .before .before .before .directory .result .0) (c .before .before .before .before .before .before .before .before .before .before .before .before .before .before .before .before .before .words-of .ensures), words-most (c .before .before .before .before .before .before .before .before .before .before .before .before .before .before .before .before .before .before .before .before .before .args .b) (c .before .before .before .before .before .before .before .before .before .before .before .before .before .before .before .before .before .before .before .before .before .pre .1))
 
--- src/tally.rt:114:9
 add-due : tie.Need-add-due Inv-loop μ-loop
-add-due c = omega (arith, c .before .before .before .tally-row .ensures .5, c .before .before .before .before .before .before .before .before .before .loop .inv .4, c .before .before .before .before .before .before .before .before .loop-test .taken, dir-short (c .before .before .before .before .before .before .before .before .before .before .before .before .before .before .before .before .args .b) (c .before .before .before .before .before .before .before .before .before .before .before .before .before .before .before .before .args .m .now) (c .before .before .before .before .before .before .before .before .before .before .before .before .before .before .directory .result .0) (c .before .before .before .before .before .before .before .before .before .before .before .before .before .words-of .ensures), words-most (c .before .before .before .before .before .before .before .before .before .before .before .before .before .before .before .before .args .b) (c .before .before .before .before .before .before .before .before .before .before .before .before .before .before .before .before .pre .1))
+add-due c = omega (arith, c .before .before .before .before .before .before .before .tally-row .ensures .1 (not-false _ (c .before .before .before .if1 .left)) .5, c .before .before .before .before .before .before .before .before .before .before .before .before .before .before .loop .inv .4, c .before .before .before .before .before .before .before .before .before .before .before .before .before .loop-test .taken, dir-short (c .before .before .before .before .before .before .before .before .before .before .before .before .before .before .before .before .before .before .before .before .before .before .args .b) (c .before .before .before .before .before .before .before .before .before .before .before .before .before .before .before .before .before .before .before .before .before .before .args .m .now) (c .before .before .before .before .before .before .before .before .before .before .before .before .before .before .before .before .before .before .before .directory .result .0) (c .before .before .before .before .before .before .before .before .before .before .before .before .before .before .before .before .before .before .words-of .ensures), words-most (c .before .before .before .before .before .before .before .before .before .before .before .before .before .before .before .before .before .before .before .before .before .before .args .b) (c .before .before .before .before .before .before .before .before .before .before .before .before .before .before .before .before .before .before .before .before .before .before .pre .1))
 
--- src/tally.rt:115:28
 add-next-word : tie.Need-add-next-word Inv-loop μ-loop
-add-next-word c = search needs
+add-next-word c = omega (arith, c .before .before .before .before .before .before .before .before .before .before .before .before .before .loop-test .taken, dir-short (c .before .before .before .before .before .before .before .before .before .before .before .before .before .before .before .before .before .before .before .before .before .before .args .b) (c .before .before .before .before .before .before .before .before .before .before .before .before .before .before .before .before .before .before .before .before .before .before .args .m .now) (c .before .before .before .before .before .before .before .before .before .before .before .before .before .before .before .before .before .before .before .directory .result .0) (c .before .before .before .before .before .before .before .before .before .before .before .before .before .before .before .before .before .before .words-of .ensures), words-most (c .before .before .before .before .before .before .before .before .before .before .before .before .before .before .before .before .before .before .before .before .before .before .args .b) (c .before .before .before .before .before .before .before .before .before .before .before .before .before .before .before .before .before .before .before .before .before .before .pre .1))
 
--- src/tally.rt:115:9
 next-word-requires-2 : tie.Need-next-word-requires-2 Inv-loop μ-loop
 next-word-requires-2 c κs = search needs
 
--- src/tally.rt:108:5
 loop-less : tie.Need-loop-less Inv-loop μ-loop
-loop-less c = omega (arith, c .before .before .before .before .before .before .before .before .before .loop-test .taken, next-low (used (c .before .before .before .before .before .before .before .before .before .before .before .before .before .before .words-of .result .now)) (length (c .before .before .before .before .before .before .before .before .before .before .before .before .before .before .words-of .result .now)) (c .before .before .before .before .before .before .before .before .before .before .loop .i + 1) (c .next-word2 .ensures))
+loop-less c = omega (arith, c .before .before .before .before .before .before .before .before .before .before .before .before .before .before .loop-test .taken, next-low (used (c .before .before .before .before .before .before .before .before .before .before .before .before .before .before .before .before .before .before .before .words-of .result .now)) (length (c .before .before .before .before .before .before .before .before .before .before .before .before .before .before .before .before .before .before .before .words-of .result .now)) (c .before .before .before .before .before .before .before .before .before .before .before .before .before .before .before .loop .i + 1) (c .next-word2 .ensures))
 
--- src/tally.rt:108:5
 loop-again : tie.Need-loop-again Inv-loop μ-loop
-loop-again c =
-    let s = c .before .before .before .before .before .before .before .before .before .before .before .before .before .before .before .before .before .args in
-    let dir = c .before .before .before .before .before .before .before .before .before .before .before .before .before .before .words-of .result .now in
-    let low = next-low (used dir) (length dir) (c .before .before .before .before .before .before .before .before .before .before .loop .i + 1) (c .next-word2 .ensures) in
-    (next-high (used dir) (length dir) (c .before .before .before .before .before .before .before .before .before .before .loop .i + 1) (omega (arith, c .before .before .before .before .before .before .before .before .before .loop-test .taken)) (c .next-word2 .ensures), next-here (used dir) (length dir) (c .before .before .before .before .before .before .before .before .before .before .loop .i + 1) (omega (arith, c .before .before .before .before .before .before .before .before .before .loop-test .taken)) (c .next-word2 .ensures), omega (arith, low, c .before .before .before .before .tally-row .ensures .3, c .before .before .before .before .before .before .before .before .before .before .loop .inv .2), omega (arith, low, c .before .before .before .before .tally-row .ensures .4, c .before .before .before .before .before .before .before .before .before .before .loop .inv .3), omega (arith, low, c .before .before .before .before .tally-row .ensures .5, c .before .before .before .before .before .before .before .before .before .before .loop .inv .4), λ d e e1. (rows-next (s .b) (s .m .now) (adding (mappedAt (s .b) (s .m .now) d)) d dir e (c .before .before .before .before .before .before .before .before .before .before .loop .mapped) (c .before .before .before .before .before .before .before .before .before .before .loop .mapped + c .before .before .before .before .tally-row .result .mapped) (c .before .before .before .before .before .before .before .before .before .loop-test .taken) (mapped-row (s .b) (s .m .now) d (c .before .before .before .before .before .before .before .before .before .before .loop .i) e (c .before .before .before .before .before .before .before .before .before .loop-test .taken) (c .before .before .before .before .before .before .before .before .before .before .loop .inv .1 (c .before .before .before .before .before .before .before .before .before .loop-test .taken)) (c .before .before .before .before .before .before .before .table-of .ensures) (c .before .before .before .before .before .before .before .before .before .before .loop .mapped) (c .before .before .before .before .tally-row .ensures .0)) (c .next-word2 .ensures) (c .before .before .before .before .before .before .before .before .before .before .loop .inv .5 d e e1 .0), rows-next (s .b) (s .m .now) (adding (shutAt (s .b) (s .m .now) d)) d dir e (c .before .before .before .before .before .before .before .before .before .before .loop .shut) (c .before .before .before .before .before .before .before .before .before .before .loop .shut + c .before .before .before .before .tally-row .result .shut) (c .before .before .before .before .before .before .before .before .before .loop-test .taken) (shut-row (s .b) (s .m .now) d (c .before .before .before .before .before .before .before .before .before .before .loop .i) e (c .before .before .before .before .before .before .before .before .before .loop-test .taken) (c .before .before .before .before .before .before .before .before .before .before .loop .inv .1 (c .before .before .before .before .before .before .before .before .before .loop-test .taken)) (c .before .before .before .before .before .before .before .table-of .ensures) e1 (c .before .before .before .before .before .before .read .ensures) (c .before .before .before .before .before .table-of2 .ensures) (c .before .before .before .before .before .before .before .before .before .before .loop .shut) (c .before .before .before .before .tally-row .ensures .1)) (c .next-word2 .ensures) (c .before .before .before .before .before .before .before .before .before .before .loop .inv .5 d e e1 .1), rows-next (s .b) (s .m .now) (adding (dueAt (s .b) (s .m .now) d)) d dir e (c .before .before .before .before .before .before .before .before .before .before .loop .due) (c .before .before .before .before .before .before .before .before .before .before .loop .due + c .before .before .before .before .tally-row .result .due) (c .before .before .before .before .before .before .before .before .before .loop-test .taken) (due-row (s .b) (s .m .now) d (c .before .before .before .before .before .before .before .before .before .before .loop .i) e (c .before .before .before .before .before .before .before .before .before .loop-test .taken) (c .before .before .before .before .before .before .before .before .before .before .loop .inv .1 (c .before .before .before .before .before .before .before .before .before .loop-test .taken)) (c .before .before .before .before .before .before .before .table-of .ensures) e1 (c .before .before .before .before .before .before .read .ensures) (c .before .before .before .before .before .table-of2 .ensures) (c .before .before .before .before .before .before .before .before .before .before .loop .due) (c .before .before .before .before .tally-row .ensures .2)) (c .next-word2 .ensures) (c .before .before .before .before .before .before .before .before .before .before .loop .inv .5 d e e1 .2)))
+loop-again c = let s = c .before .before .before .before .before .before .before .before .before .before .before .before .before .before .before .before .before .before .before .before .before .before .before .args in
+    let dir = c .before .before .before .before .before .before .before .before .before .before .before .before .before .before .before .before .before .before .before .words-of .result .now in
+    let low = next-low (used dir) (length dir) (c .before .before .before .before .before .before .before .before .before .before .before .before .before .before .before .loop .i + 1) (c .next-word2 .ensures) in
+    (next-high (used dir) (length dir) (c .before .before .before .before .before .before .before .before .before .before .before .before .before .before .before .loop .i + 1) (omega (arith, c .before .before .before .before .before .before .before .before .before .before .before .before .before .before .loop-test .taken)) (c .next-word2 .ensures), next-here (used dir) (length dir) (c .before .before .before .before .before .before .before .before .before .before .before .before .before .before .before .loop .i + 1) (omega (arith, c .before .before .before .before .before .before .before .before .before .before .before .before .before .before .loop-test .taken)) (c .next-word2 .ensures), omega (arith, low, c .before .before .before .before .before .before .before .before .tally-row .ensures .1 (not-false _ (c .before .before .before .before .if1 .left)) .3, c .before .before .before .before .before .before .before .before .before .before .before .before .before .before .before .loop .inv .2), omega (arith, low, c .before .before .before .before .before .before .before .before .tally-row .ensures .1 (not-false _ (c .before .before .before .before .if1 .left)) .4, c .before .before .before .before .before .before .before .before .before .before .before .before .before .before .before .loop .inv .3), omega (arith, low, c .before .before .before .before .before .before .before .before .tally-row .ensures .1 (not-false _ (c .before .before .before .before .if1 .left)) .5, c .before .before .before .before .before .before .before .before .before .before .before .before .before .before .before .loop .inv .4), (λ d e e1. (rows-next (s .b) (s .m .now) (adding (mappedAt (s .b) (s .m .now) d)) d dir e (c .before .before .before .before .before .before .before .before .before .before .before .before .before .before .before .loop .mapped) (c .before .before .before .before .before .before .before .before .before .before .before .before .before .before .before .loop .mapped + c .before .before .before .before .before .before .before .before .tally-row .result .mapped) (c .before .before .before .before .before .before .before .before .before .before .before .before .before .before .loop-test .taken) (mapped-row (s .b) (s .m .now) d (c .before .before .before .before .before .before .before .before .before .before .before .before .before .before .before .loop .i) e (c .before .before .before .before .before .before .before .before .before .before .before .before .before .before .loop-test .taken) (c .before .before .before .before .before .before .before .before .before .before .before .before .before .before .before .loop .inv .1 (c .before .before .before .before .before .before .before .before .before .before .before .before .before .before .loop-test .taken)) (c .before .before .before .before .before .before .before .before .before .before .before .before .table-of .ensures) (c .before .before .before .before .before .before .before .before .before .before .before .before .before .before .before .loop .mapped) (c .before .before .before .before .before .before .before .before .tally-row .ensures .1 (not-false _ (c .before .before .before .before .if1 .left)) .0)) (c .next-word2 .ensures) (c .before .before .before .before .before .before .before .before .before .before .before .before .before .before .before .loop .inv .5 d e e1 .0), rows-next (s .b) (s .m .now) (adding (shutAt (s .b) (s .m .now) d)) d dir e (c .before .before .before .before .before .before .before .before .before .before .before .before .before .before .before .loop .shut) (c .before .before .before .before .before .before .before .before .before .before .before .before .before .before .before .loop .shut + c .before .before .before .before .before .before .before .before .tally-row .result .shut) (c .before .before .before .before .before .before .before .before .before .before .before .before .before .before .loop-test .taken) (shut-row (s .b) (s .m .now) d (c .before .before .before .before .before .before .before .before .before .before .before .before .before .before .before .loop .i) e (c .before .before .before .before .before .before .before .before .before .before .before .before .before .before .loop-test .taken) (c .before .before .before .before .before .before .before .before .before .before .before .before .before .before .before .loop .inv .1 (c .before .before .before .before .before .before .before .before .before .before .before .before .before .before .loop-test .taken)) (c .before .before .before .before .before .before .before .before .before .before .before .before .table-of .ensures) e1 (c .before .before .before .before .before .before .before .before .before .before .before .read .ensures) (c .before .before .before .before .before .before .before .before .before .before .table-of2 .ensures) (c .before .before .before .before .before .before .before .before .before .before .before .before .before .before .before .loop .shut) (c .before .before .before .before .before .before .before .before .tally-row .ensures .1 (not-false _ (c .before .before .before .before .if1 .left)) .1)) (c .next-word2 .ensures) (c .before .before .before .before .before .before .before .before .before .before .before .before .before .before .before .loop .inv .5 d e e1 .1), rows-next (s .b) (s .m .now) (adding (dueAt (s .b) (s .m .now) d)) d dir e (c .before .before .before .before .before .before .before .before .before .before .before .before .before .before .before .loop .due) (c .before .before .before .before .before .before .before .before .before .before .before .before .before .before .before .loop .due + c .before .before .before .before .before .before .before .before .tally-row .result .due) (c .before .before .before .before .before .before .before .before .before .before .before .before .before .before .loop-test .taken) (due-row (s .b) (s .m .now) d (c .before .before .before .before .before .before .before .before .before .before .before .before .before .before .before .loop .i) e (c .before .before .before .before .before .before .before .before .before .before .before .before .before .before .loop-test .taken) (c .before .before .before .before .before .before .before .before .before .before .before .before .before .before .before .loop .inv .1 (c .before .before .before .before .before .before .before .before .before .before .before .before .before .before .loop-test .taken)) (c .before .before .before .before .before .before .before .before .before .before .before .before .table-of .ensures) e1 (c .before .before .before .before .before .before .before .before .before .before .before .read .ensures) (c .before .before .before .before .before .before .before .before .before .before .table-of2 .ensures) (c .before .before .before .before .before .before .before .before .before .before .before .before .before .before .before .loop .due) (c .before .before .before .before .before .before .before .before .tally-row .ensures .1 (not-false _ (c .before .before .before .before .if1 .left)) .2)) (c .next-word2 .ensures) (c .before .before .before .before .before .before .before .before .before .before .before .before .before .before .before .loop .inv .5 d e e1 .2), rows-next (s .b) (s .m .now) (handAt (s .b) (s .m .now) d) d dir e (some (c .before .before .before .before .before .before .before .before .before .before .before .before .before .before .before .loop .seen)) (some (c .before .before .before .before .before .before .before .before .tally-row .last .1 .1 .0)) (c .before .before .before .before .before .before .before .before .before .before .before .before .before .before .loop-test .taken) (sym (hands-row (s .b) (s .m .now) d (c .before .before .before .before .before .before .before .before .before .before .before .before .before .before .before .loop .i) e (c .before .before .before .before .before .before .before .before .before .before .before .before .before .before .loop-test .taken) (c .before .before .before .before .before .before .before .before .before .before .before .before .before .before .before .loop .inv .1 (c .before .before .before .before .before .before .before .before .before .before .before .before .before .before .loop-test .taken)) (c .before .before .before .before .before .before .before .before .before .before .before .before .table-of .ensures) e1 (c .before .before .before .before .before .before .before .before .before .before .before .read .ensures) (c .before .before .before .before .before .before .before .before .before .before .table-of2 .ensures) (some (c .before .before .before .before .before .before .before .before .before .before .before .before .before .before .before .loop .seen)) ∙ passed _ (c .before .before .before .before .before .before .before .before .tally-row .result .marked) _ (c .before .before .before .before .before .before .before .before .tally-row .ensures .0) (not-false _ (c .before .before .before .before .if1 .left)))) (c .next-word2 .ensures) (c .before .before .before .before .before .before .before .before .before .before .before .before .before .before .before .loop .inv .5 d e e1 .3))), c .before .before .before .before .before .before .before .before .tally-row .kept .1 .1 .0 ∙ c .before .before .before .before .before .before .before .before .before .before .before .before .before .before .before .loop .inv .6)
 
--- src/tally.rt:93:1
-returns : tie.Need-returns Inv-loop μ-loop
-returns c =
-    let s = c .before .before .before .before .before .before .before .before .args in
+same-length-2 : tie.Need-same-length-2 Inv-loop μ-loop
+same-length-2 c = search needs
+
+returns-2 : tie.Need-returns-2 Inv-loop μ-loop
+returns-2 c = let s = c .before .before .before .before .before .before .before .before .before .args in
     let dir = c .before .before .before .before .before .words-of .result .now in
     let e = c .before .before .before .before .before .words-of .ensures ∙ ap (page (s .b) (s .m .now)) (c .before .before .before .before .before .before .directory .ensures) in
     let e1 = c .before .before .before .words-of2 .ensures ∙ ap (page (s .b) (s .m .now)) (c .before .before .before .before .shadow1 .ensures) in
     let i = c .before .loop .inv .5 (s .d .0) e e1 in
-    (sym (rows-end (s .b) (s .m .now) (adding (mappedAt (s .b) (s .m .now) (s .d .0))) (s .d .0) dir e (c .before .loop .mapped) (c .loop-test .left) (i .0)), sym (rows-end (s .b) (s .m .now) (adding (shutAt (s .b) (s .m .now) (s .d .0))) (s .d .0) dir e (c .before .loop .shut) (c .loop-test .left) (i .1)), sym (rows-end (s .b) (s .m .now) (adding (dueAt (s .b) (s .m .now) (s .d .0))) (s .d .0) dir e (c .before .loop .due) (c .loop-test .left) (i .2)))
+    (rows-end (s .b) (s .m .now) (handAt (s .b) (s .m .now) (s .d .0)) (s .d .0) dir e (some (c .before .loop .seen)) (c .loop-test .left) (i .3), λ z. (sym (rows-end (s .b) (s .m .now) (adding (mappedAt (s .b) (s .m .now) (s .d .0))) (s .d .0) dir e (c .before .loop .mapped) (c .loop-test .left) (i .0)), sym (rows-end (s .b) (s .m .now) (adding (shutAt (s .b) (s .m .now) (s .d .0))) (s .d .0) dir e (c .before .loop .shut) (c .loop-test .left) (i .1)), sym (rows-end (s .b) (s .m .now) (adding (dueAt (s .b) (s .m .now) (s .d .0))) (s .d .0) dir e (c .before .loop .due) (c .loop-test .left) (i .2))))
 
 pub tally-spec : {M : Type 1} → statement M
 tally-spec =
@@ -137,6 +132,8 @@ tally-spec =
     read-requires
     table-of-requires-2
     tally-row-requires
+    same-length
+    returns
     add-mapped
     add-shut
     add-due
@@ -144,4 +141,5 @@ tally-spec =
     next-word-requires-2
     loop-less
     loop-again
-    returns)
+    same-length-2
+    returns-2)
