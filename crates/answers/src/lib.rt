@@ -1,4 +1,10 @@
 // What a call answers: done, with a word, or the refusal.
+pub mod outcomes;
+pub mod packing;
+
+pub use outcomes::Outcome;
+pub use outcomes::outcome_of;
+pub use packing::pack;
 ghost use mathlib.Core.Path.{_≡_};
 ghost use Prim.Native.Nat.{_≤_};
 ghost use Rattle.rules.specs.Row;

@@ -1,12 +1,12 @@
 // Format, and document 01's calls by their numbers: the words of the memory, then the arguments in its order.
-// A call answers one number: the refusal's number times 2^32, plus the answer's word.
+// A call answers one number: the refusal's number times 2^32, plus the answer's word (`upper-half` and `lower-half` of proofs/Answered).
 use crate::halves::upper;
-use kernel::pack;
+use answers::pack;
 ghost use mathlib.Core.Path.{_≡_};
 ghost use Rattle.rules.specs.Call;
 ghost use Rattle.rules.specs.Calls.{answer, after};
 ghost use Rattle.rules.specs.Refusals.{refusal};
-ghost use Rattle.kernel.specs.Sequence.{packed};
+ghost use Rattle.answers.specs.Packed.{packed};
 
 // Format: 0, or the refusal.
 #[no_mangle]

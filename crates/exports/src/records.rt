@@ -1,6 +1,6 @@
 // The start-up record: the writer, and the reader's three answers. The revision is bytes 12 to 75 of a record that is not refused.
 use crate::halves::upper;
-use kernel::pack;
+use answers::pack;
 ghost use mathlib.Core.Path.{_≡_};
 ghost use Rattle.rules.specs.Row.{first};
 ghost use Rattle.rules.specs.Record.{writerRefusals, afterWriter, readerRefusal, recordBegin, recordEnd};

@@ -13,7 +13,8 @@ use Rattle.rules.specs.Call.{Call}
 use Rattle.rules.specs.Calls.{answer, after, run, answers}
 use Rattle.claim.specs.Claim.{Demand3}
 use Rattle.claim.proofs.Demand3.{demand-3}
-use Rattle.kernel.specs.Sequence.{callAt, endAt, whole, callsFrom, packed}
+use Rattle.answers.specs.Packed.{packed}
+use Rattle.kernel.specs.Sequence.{callAt, endAt, whole, callsFrom}
 use Rattle.kernel.specs.Ran.{Ran, executed, packedAnswers}
 use Rattle.kernel.proofs.Words.{end-next}
 

@@ -7,7 +7,8 @@ use Rattle.memory.specs.Words.{overwrite}
 use Rattle.rules.specs.Call.{Call, formatAll}
 use Rattle.rules.specs.Calls.{run, answers}
 use Rattle.claim.specs.Claim.{Permitted, Claim, Barred}
-use Rattle.kernel.specs.Sequence.{callsFrom, packed}
+use Rattle.answers.specs.Packed.{packed}
+use Rattle.kernel.specs.Sequence.{callsFrom}
 
 -- the calls that words ws stand for, as many as out has room for answers
 abbrev pub executed : List ℕ → List ℕ → List Call

@@ -1,10 +1,9 @@
 -- A sequence of calls as words: each call is its number and its arguments, one word each. Assumes nothing.
 use mathlib.Core.List.{List, [], _∷_}
 use mathlib.Core.Bool.{Bool, cond, _&&_}
-use Prim.Native.Nat.{ℕ, zero, suc, _+_, _*_, _^_}
+use Prim.Native.Nat.{ℕ, zero, suc, _+_}
 use lib.Dec.{leb, eqb}
 use lib.ListN.{length, getD}
-use Rattle.rules.specs.Row.{Answer, ok, no}
 use Rattle.rules.specs.Call.{Call, formatAll}
 use Rattle.rules.specs.Replay.{argumentCounts, callOf}
 
@@ -37,8 +36,3 @@ module _ (ws : List ℕ) (i : ℕ) where
 unfoldable pub callsFrom : ℕ → List ℕ → ℕ → List Call
 callsFrom zero ws i = []
 callsFrom (suc n) ws i = let more = callsFrom n ws (endAt ws i) in cond (whole ws i) (callAt ws i ∷ more) []
-
--- an answer as one number: the word of a call that is done, or a refusal's number above 32 zeros
-abbrev pub packed : Answer → ℕ
-packed (ok x) = x
-packed (no n) = n * 2 ^ 32

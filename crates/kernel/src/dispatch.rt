@@ -1,13 +1,14 @@
 // A call by its number, with its arguments as words.
 use crate::calls;
-use crate::packing::pack;
 use answers::Answer;
+use answers::pack;
 ghost use mathlib.Core.Path.{_≡_};
 ghost use Prim.Native.Nat.{_<_};
 ghost use lib.ListN.{length, getD};
 ghost use Rattle.rules.specs.Calls.{answer, after};
 ghost use Rattle.answers.specs.Said.{said};
-ghost use Rattle.kernel.specs.Sequence.{numbered, five, callAt, packed};
+ghost use Rattle.answers.specs.Packed.{packed};
+ghost use Rattle.kernel.specs.Sequence.{numbered, five, callAt};
 
 // The call of number n: 0 is format, 1 to 12 are document 01's. a holds its arguments.
 pub fn by_number(m: &mut [u32], n: u32, a: [u32; 5]) -> Answer

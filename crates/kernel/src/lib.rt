@@ -1,7 +1,6 @@
 // The kernel: the open calls, a call by its number, and the run of a sequence.
 pub mod calls;
 pub mod dispatch;
-pub mod packing;
 pub mod sequences;
 
 pub use calls::add_vaddr;
@@ -19,5 +18,4 @@ pub use calls::remove_vaddr;
 pub use calls::store;
 pub use dispatch::by_number;
 pub use dispatch::call;
-pub use packing::pack;
 pub use sequences::run;

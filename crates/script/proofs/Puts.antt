@@ -8,7 +8,8 @@ use lib.ListN.{length, set, length-append}
 use Rattle.memory.specs.Words.{overwrite}
 use Rattle.rules.specs.Replay.{decimal, line}
 use Rattle.record.proofs.Append.{overwrite-append}
-use Rattle.script.specs.Lines.{Put, outcome, outcomeWord}
+use Rattle.answers.specs.Packed.{outcome}
+use Rattle.script.specs.Lines.{Put, outcomeWord}
 use Rattle.script.proofs.Decimals.{one-digit, more-digits}
 
 pub put-then : {m n o : List ℕ} {i j k : ℕ} {xs ys : List ℕ} → Put m n i j xs → Put n o j k ys → Put m o i k (xs ++ ys)

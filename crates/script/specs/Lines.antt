@@ -6,18 +6,12 @@ use Prim.Native.Nat.{ℕ, _+_}
 use lib.ListN.{length}
 use Rattle.memory.specs.Geometry.{flatPages}
 use Rattle.memory.specs.Words.{overwrite}
-use Rattle.rules.specs.Row.{Answer, ok, no}
 use Rattle.rules.specs.Replay.{decimal}
 
 -- the bytes ws stand from byte i on, all else is as it was, and j is the byte behind them
 pub record Put (before after : List ℕ) (i j : ℕ) (ws : List ℕ) : Type 0 where
   pub next : j ≡ i + length ws
   pub bytes : after ≡ overwrite before i ws
-
--- "ok" with a word, or "no" with a refusal's number
-abbrev pub outcome : Bool → ℕ → Answer
-outcome true x = ok x
-outcome false n = no n
 
 -- " ok " or " no "
 abbrev pub outcomeWord : Bool → List ℕ

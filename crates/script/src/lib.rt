@@ -3,7 +3,6 @@ pub mod arguments;
 pub mod digits;
 pub mod header;
 pub mod lines;
-pub mod outcomes;
 pub mod records;
 
 pub use arguments::argument_count;
@@ -16,8 +15,6 @@ pub use lines::put_answer;
 pub use lines::put_bad_script;
 pub use lines::put_first_line;
 pub use lines::put_line;
-pub use outcomes::Outcome;
-pub use outcomes::outcome_of;
 pub use records::all_records;
 pub use records::argument;
 pub use records::next_record;

@@ -1,16 +1,17 @@
 // "Otherwise a line `N F`, then a line for each record."
 use crate::digits::put;
 use crate::digits::put_decimal;
-use crate::outcomes::outcome_of;
-use crate::outcomes::outcome_word;
 use answers::Answer;
+use answers::outcome_of;
 use record::flat_pages;
+ghost use mathlib.Core.Path.{_≡_};
 ghost use Prim.Native.Nat.{_+_, _≤_};
 ghost use lib.ListN.{length};
 ghost use Rattle.rules.specs.Replay.{line, badScript};
 ghost use Rattle.pages.specs.Width.{Width};
 ghost use Rattle.answers.specs.Said.{said};
-ghost use Rattle.script.specs.Lines.{Put, outcome, firstLine};
+ghost use Rattle.answers.specs.Packed.{outcome};
+ghost use Rattle.script.specs.Lines.{Put, outcomeWord, firstLine};
 
 // "prints only `bad script`"
 pub fn put_bad_script(out: &mut [u8]) -> usize
@@ -31,6 +32,16 @@ pub fn put_first_line(b: u32, n: u32, out: &mut [u8]) -> usize
     let q = put(out, p, b" ");
     let r = put_decimal(out, q, f);
     put(out, r, b"\n")
+}
+
+// " ok " or " no ".
+fn outcome_word(done: bool) -> [u8; 4]
+    ensures { λ r. ⌜ r ≡ outcomeWord done ⌝ }
+{
+    if done {
+        return [32, 111, 107, 32];
+    }
+    [32, 110, 111, 32]
 }
 
 // The line of record k: its place, " ok " and a word or " no " and a refusal's number.

@@ -1,19 +1,8 @@
 // Judges memories: of each it says whether it is sound or damaged. The input is little-endian words, for each memory its number of pages, how many of
 // its words are not 0, and index and value of each.
-use libc::STDIN_FILENO;
+use input::next_word;
 use libc::STDOUT_FILENO;
 ghost use Prim.Native.Nat.{_≤_};
-
-fn wide(x: u8) -> u32 {
-    x as u32
-}
-
-// The next word of the input; 0 past its end.
-fn next_word() -> u32 {
-    let mut four = [0u8; 4];
-    io::read_full(STDIN_FILENO, &mut four);
-    (wide(four[3]) << 24) | (wide(four[2]) << 16) | (wide(four[1]) << 8) | wide(four[0])
-}
 
 // The words that are not 0.
 fn put_words(m: &mut [u32]) {

@@ -138,18 +138,24 @@ pub fn create_partition(mem: &mut [u32], five: [u32; 5]) -> Answer {
     }
     require(mappings.iter().all(|&m| holds(m, WRITE)), RIGHTS)?;
     require(depth_of(mem, &caller) < MOST_DEPTH, DEPTH)?;
+    found(mem, &caller, group);
+    Ok(0)
+}
+
+/// The effect of create, with no check.
+pub fn found(mem: &mut [u32], caller: &Partition, group: [VPage; 5]) {
+    let pages = group.map(|v| caller.mapping(mem, v).map_or(HEADER, |m| m.page));
     for v in group {
-        take(mem, &caller, v);
+        take(mem, caller, v);
     }
-    let (descriptor, list) = (mappings[0].page, mappings[4].page);
-    for (k, (v, mapping)) in group.iter().zip(&mappings).enumerate() {
+    let (descriptor, list) = (pages[0], pages[4]);
+    for (k, (v, page)) in group.iter().zip(pages).enumerate() {
         set_word(mem, descriptor, 2 * k, v.address());
-        set_word(mem, descriptor, 2 * k + 1, mapping.page.address());
+        set_word(mem, descriptor, 2 * k + 1, page.address());
     }
     set_word(mem, descriptor, PARENT, caller.descriptor.address());
     set_word(mem, list, 0, 1);
     set_table_word(mem, caller.shadow1, group[0], IS_CHILD);
-    Ok(0)
 }
 
 pub fn delete_partition(mem: &mut [u32], child: u32) -> Answer {
@@ -218,7 +224,8 @@ pub fn prepare(mem: &mut [u32], child: u32, target: u32, first: u32) -> Answer {
     let index = target.directory_index();
     require(!child.has_three(mem, index), TAKEN)?;
     require(child.three_count(mem) < MOST_THREES, LIST)?;
-    let chain = follow_chain(mem, &caller, first.address())?;
+    let mut chain = Vec::new();
+    follow_chain(mem, &caller, first.address(), &mut chain)?;
     let used = word(mem, child.list, 0) as usize;
     for (kind, (v, page)) in chain.into_iter().enumerate() {
         take(mem, &caller, v);
@@ -230,9 +237,8 @@ pub fn prepare(mem: &mut [u32], child: u32, target: u32, first: u32) -> Answer {
     Ok(0)
 }
 
-/// The three chained pages. A page's own link is read only after the page itself has passed.
-fn follow_chain(mem: &[u32], caller: &Partition, first: u32) -> Result<Vec<(VPage, PPage)>, u32> {
-    let mut chain: Vec<(VPage, PPage)> = Vec::new();
+/// Collects the three chained pages. A page's own link is read only after the page itself has passed.
+pub fn follow_chain(mem: &[u32], caller: &Partition, first: u32, chain: &mut Vec<(VPage, PPage)>) -> Result<(), u32> {
     let mut link = first;
     for _ in 0..3 {
         let v = VPage::of(link);
@@ -243,8 +249,7 @@ fn follow_chain(mem: &[u32], caller: &Partition, first: u32) -> Result<Vec<(VPag
         link = word(mem, mapping.page, 0);
         chain.push((v, mapping.page));
     }
-    require(link == 0, CHAIN)?;
-    Ok(chain)
+    require(link == 0, CHAIN)
 }
 
 pub fn collect(mem: &mut [u32], child: u32, target: u32) -> Answer {

@@ -25,30 +25,77 @@ pub fn damage(mem: &[u32], random: &mut Random) -> Changes {
     changes
 }
 
+/// Changes of any number of words: also those that one word or two seldom make, so that each sentence is broken alone.
+pub fn wide_damage(mem: &[u32], random: &mut Random) -> Changes {
+    let nodes = tree(mem);
+    let wider = match random.below(12) {
+        0 => second_use(mem, &nodes, random),
+        1 => other_order(mem, &nodes, random),
+        2 => open_descriptor(mem, &nodes, random),
+        3 => other_parent(mem, &nodes, random),
+        4 => Some(vec![(CURRENT, any_page(mem, random))]),
+        5 => Some((0..3 + random.below(3)).flat_map(|_| damage(mem, random)).collect()),
+        _ => None,
+    };
+    wider.unwrap_or_else(|| damage(mem, random))
+}
+
+fn any_page(mem: &[u32], random: &mut Random) -> u32 {
+    PPage(random.below(mem.len() / PAGE_WORDS) as u32).address()
+}
+
+/// Names another page as a child's parent.
+fn other_parent(mem: &[u32], nodes: &[Node], random: &mut Random) -> Option<Changes> {
+    let children: Vec<_> = nodes[1..].iter().map(|node| node.partition.descriptor).collect();
+    let index = random.pick(&children)?.0 as usize * PAGE_WORDS + PARENT;
+    Some(vec![(index, any_page(mem, random))])
+}
+
+/// Makes a child's descriptor accessible in all its ancestors.
+fn open_descriptor(mem: &[u32], nodes: &[Node], random: &mut Random) -> Option<Changes> {
+    let children: Vec<_> = nodes.iter().filter_map(|node| node.parent).collect();
+    let (place, at) = random.pick(&children)?;
+    Some(opened(mem, nodes, place, at))
+}
+
+/// Sets the accessible bit of the page in the partition at this place of the tree and in its ancestors.
+fn opened(mem: &[u32], nodes: &[Node], mut place: usize, mut v: VPage) -> Changes {
+    let mut changes = Vec::new();
+    loop {
+        let Node { partition, parent, .. } = &nodes[place];
+        let table = PPage::of(word(mem, partition.directory, v.directory_index()));
+        let index = table.0 as usize * PAGE_WORDS + v.table_index();
+        changes.push((index, mem[index] | ACCESSIBLE));
+        v = VPage::of(partition.shadow2(mem, v));
+        let Some((above, _)) = *parent else { break changes };
+        place = above;
+    }
+}
+
+/// Exchanges two pairs of a listed three, so that it stands at no index in that order.
+fn other_order(mem: &[u32], nodes: &[Node], random: &mut Random) -> Option<Changes> {
+    let listed: Vec<_> = nodes[1..].iter().map(|node| node.partition).filter(|p| p.three_count(mem) > 0).collect();
+    let child = random.pick(&listed)?;
+    let three = child.list.0 as usize * PAGE_WORDS + 1 + 6 * random.below(child.three_count(mem));
+    let (one, other) = random.pick(&[(three, three + 2), (three, three + 4), (three + 2, three + 4)])?;
+    Some(vec![(one, mem[other]), (one + 1, mem[other + 1]), (other, mem[one]), (other + 1, mem[one + 1])])
+}
+
 /// Gives one page two kernel uses, which takes three words or more: a child without threes takes a
 /// page of its own or of such a sibling a second time, and the page it drops comes to its parent's hand.
-pub fn second_use(mem: &[u32], random: &mut Random) -> Option<Changes> {
-    let nodes = tree(mem);
+fn second_use(mem: &[u32], nodes: &[Node], random: &mut Random) -> Option<Changes> {
     let bare: Vec<_> = nodes.iter().filter(|node| node.partition.three_count(mem) == 0).collect();
     let taker = random.pick(&bare)?;
-    let (mut place, _) = taker.parent?;
+    let (place, _) = taker.parent?;
     let siblings: Vec<_> = bare.iter().filter(|node| node.parent.is_some_and(|p| p.0 == place)).collect();
     let giver = random.pick(&siblings)?;
     let (own, other) = random.pick(&[(1, 2), (2, 3), (3, 1), (1, 1), (2, 2), (3, 3), (4, 4)])?;
-    let (mut dropped, page) = taker.partition.kernel_pairs(mem)[own];
+    let (dropped, page) = taker.partition.kernel_pairs(mem)[own];
     let (at, taken) = giver.partition.kernel_pairs(mem)[other];
     let pair = taker.partition.descriptor.0 as usize * PAGE_WORDS + 2 * own;
     let mut changes = vec![(pair, at.address()), (pair + 1, taken.address())];
     if page != taken {
-        loop {
-            let Node { partition, parent, .. } = &nodes[place];
-            let table = PPage::of(word(mem, partition.directory, dropped.directory_index()));
-            let index = table.0 as usize * PAGE_WORDS + dropped.table_index();
-            changes.push((index, mem[index] | ACCESSIBLE));
-            dropped = VPage::of(partition.shadow2(mem, dropped));
-            let Some((above, _)) = *parent else { break };
-            place = above;
-        }
+        changes.extend(opened(mem, nodes, place, dropped));
     }
     Some(changes)
 }

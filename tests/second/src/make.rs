@@ -1,25 +1,32 @@
 //! A guided random maker of call sequences. It keeps its own memory, so that it knows which
 //! arguments would pass, and spoils some of them so that each refusal comes up too.
 
-use crate::calls::{call, format};
+use crate::calls::{call, format, Answer};
 use crate::geometry::*;
 use crate::memory::*;
 use crate::random::Random;
 
-struct Maker {
-    mem: Vec<u32>,
-    random: Random,
-    lines: Vec<Vec<u32>>,
-    count: usize,
+struct Maker<'a, Show: FnMut(&[u32], Answer, &[u32])> {
+    mem: &'a mut [u32],
+    random: &'a mut Random,
+    /// How many calls are still to be made.
+    left: usize,
+    show: Show,
 }
 
 /// So many calls for a memory of so many pages; each line is a call number and its arguments.
 pub fn make(seed: u32, count: usize, pages: usize) -> Vec<Vec<u32>> {
-    let mem = vec![0; pages * PAGE_WORDS];
-    let mut maker = Maker { mem, random: Random::new(seed), lines: Vec::new(), count };
+    let (mut mem, mut lines) = (vec![0; pages * PAGE_WORDS], Vec::new());
     // A bad page count is refused here; the calls are made all the same.
-    let _ = format(&mut maker.mem);
-    while maker.lines.len() < count {
+    let _ = format(&mut mem);
+    guide(&mut mem, &mut Random::new(seed), count, |line, _, _| lines.push(line.to_vec()));
+    lines
+}
+
+/// Makes and performs so many calls, and shows each with its answer and the memory after it.
+pub fn guide(mem: &mut [u32], random: &mut Random, count: usize, show: impl FnMut(&[u32], Answer, &[u32])) {
+    let mut maker = Maker { mem, random, left: count, show };
+    while maker.left > 0 {
         match maker.random.below(20) {
             0..=7 => maker.mix(60),
             8 | 9 => maker.dig(3, true),
@@ -28,57 +35,57 @@ pub fn make(seed: u32, count: usize, pages: usize) -> Vec<Vec<u32>> {
             13 | 14 => maker.tear(),
             15 => maker.climb(3),
             16 | 17 => maker.descend(3),
-            _ if maker.random.once_in(8) => maker.say(&[0]),
+            _ if maker.random.once_in(8) => drop(maker.say(&[0])),
             _ => maker.clear_root(),
         }
     }
-    maker.lines
 }
 
 /// Call numbers for the mix, the more useful ones more often.
 const MIX: [u32; 30] =
     [1, 1, 2, 3, 3, 3, 3, 3, 3, 4, 4, 4, 5, 6, 6, 6, 7, 7, 7, 8, 8, 9, 9, 10, 11, 11, 11, 12, 12, 12];
 
-impl Maker {
-    fn say(&mut self, line: &[u32]) {
-        if self.lines.len() < self.count {
-            let _ = call(&mut self.mem, line[0], &line[1..]);
-            self.lines.push(line.to_vec());
-        }
+impl<Show: FnMut(&[u32], Answer, &[u32])> Maker<'_, Show> {
+    /// The call's answer where it passes.
+    fn say(&mut self, line: &[u32]) -> Option<u32> {
+        self.left = self.left.checked_sub(1)?;
+        let answer = call(self.mem, line[0], &line[1..])?;
+        (self.show)(line, answer, self.mem);
+        answer.ok()
     }
 
     // What the memory holds, as addresses in the caller or in one of its children.
 
     fn mapped(&self, keep: impl Fn(&Partition, VPage, Mapping) -> bool) -> Vec<u32> {
-        let here = Partition::current(&self.mem);
-        here.mappings(&self.mem).filter(|&(v, m)| keep(&here, v, m)).map(|(v, _)| v.address()).collect()
+        let here = Partition::current(self.mem);
+        here.mappings(self.mem).filter(|&(v, m)| keep(&here, v, m)).map(|(v, _)| v.address()).collect()
     }
 
     /// Pages in the caller's hand with at least these rights, in random order.
     fn hand(&mut self, rights: u32) -> Vec<u32> {
-        let mut hand = self.mapped(|here, v, m| here.in_hand(&self.mem, v) && rights & !m.rights == 0);
+        let mut hand = self.mapped(|here, v, m| here.in_hand(self.mem, v) && rights & !m.rights == 0);
         self.random.shuffle(&mut hand);
         hand
     }
 
     fn children(&self) -> Vec<u32> {
-        self.mapped(|here, v, _| here.shadow1(&self.mem, v) == IS_CHILD)
+        self.mapped(|here, v, _| here.shadow1(self.mem, v) == IS_CHILD)
     }
 
     fn rights(&self, page: u32) -> u32 {
-        Partition::current(&self.mem).mapping(&self.mem, VPage::of(page)).map_or(7, |m| m.rights)
+        Partition::current(self.mem).mapping(self.mem, VPage::of(page)).map_or(7, |m| m.rights)
     }
 
     fn partition(&self, child: u32) -> Option<Partition> {
-        let mapping = Partition::current(&self.mem).mapping(&self.mem, VPage::of(child))?;
-        self.children().contains(&child).then(|| Partition::at(&self.mem, mapping.page))
+        let mapping = Partition::current(self.mem).mapping(self.mem, VPage::of(child))?;
+        self.children().contains(&child).then(|| Partition::at(self.mem, mapping.page))
     }
 
     /// Addresses that the child's tables cover, mapped or not.
     fn covered(&self, child: u32, mapped: bool) -> Vec<u32> {
         let Some(child) = self.partition(child) else { return Vec::new() };
-        let places = child.tabled(&self.mem).filter(|&v| v.0 != 0);
-        places.filter(|&v| child.mapping(&self.mem, v).is_some() == mapped).map(VPage::address).collect()
+        let places = child.tabled(self.mem).filter(|&v| v.0 != 0);
+        places.filter(|&v| child.mapping(self.mem, v).is_some() == mapped).map(VPage::address).collect()
     }
 
     // Arguments.
@@ -108,7 +115,7 @@ impl Maker {
     /// An address where the child has no three.
     fn bare(&mut self, child: u32) -> u32 {
         let child = self.partition(child);
-        let bare = |i: &usize| child.is_none_or(|c| !c.has_three(&self.mem, *i));
+        let bare = |i: &usize| child.is_none_or(|c| !c.has_three(self.mem, *i));
         let indices: Vec<usize> = (0..PAGE_WORDS).filter(bare).collect();
         let index = self.random.pick(&indices).unwrap_or(0);
         VPage::at(index, 1 + self.random.below(PAGE_WORDS - 1)).address()
@@ -136,19 +143,26 @@ impl Maker {
     fn guided(&mut self, number: u32) {
         let children = self.children();
         let lacks_child = matches!(number, 2..=7 | 9) && children.is_empty();
-        let lacks_pages = matches!(number, 1 | 6) && self.hand(WRITE).len() < 5;
+        let lacks_pages = match number {
+            1 => self.hand(WRITE).len() < 5,
+            6 => self.hand(READ + WRITE).len() < 3,
+            _ => false,
+        };
         if (lacks_child || lacks_pages) && !self.random.once_in(8) {
             return match self.hand(WRITE).len() {
-                0..=4 if children.is_empty() && self.random.once_in(2) => self.say(&[10]),
-                0..=4 if children.is_empty() => self.guided(11),
-                0..=4 => self.tear(),
-                _ => self.create(),
+                5.. => self.create(),
+                _ if !children.is_empty() => self.tear(),
+                _ if self.random.once_in(2) => drop(self.say(&[10])),
+                _ => self.guided(11),
             };
         }
         let child = self.mostly(&children);
-        let bare = self.partition(child).is_some_and(|c| c.three_count(&self.mem) == 0);
+        let bare = self.partition(child).is_some_and(|c| c.three_count(self.mem) == 0);
         if bare && matches!(number, 3 | 4 | 7) && !self.random.once_in(8) {
-            return self.prepare(child);
+            return match self.hand(READ + WRITE).len() {
+                3.. => self.prepare(child),
+                _ => self.guided(8),
+            };
         }
         let line = match number {
             1 => return self.create(),
@@ -265,6 +279,12 @@ impl Maker {
         }
         let target = self.bare(a);
         self.say(&[5, a, target]);
+        // Room given back by collect is used at once, with the chain that it leaves.
+        if let Some(dropped) = self.random.pick(&self.covered(a, false)) {
+            if let Some(first) = self.say(&[7, a, dropped]) {
+                self.say(&[6, a, target, first]);
+            }
+        }
         for number in [5, 3, 7, 7, 5, 6] {
             self.guided(number);
         }
@@ -297,7 +317,7 @@ impl Maker {
 
     fn climb(&mut self, levels: usize) {
         for _ in 0..levels {
-            if Partition::current(&self.mem).descriptor != ROOT_PAGE || self.random.once_in(40) {
+            if Partition::current(self.mem).descriptor != ROOT_PAGE || self.random.once_in(40) {
                 self.say(&[10]);
             }
         }

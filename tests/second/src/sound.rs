@@ -218,7 +218,9 @@ fn one_use_each(j: &Judged) -> bool {
         let hand = partition.mappings(j.mem).filter(|&(v, _)| partition.in_hand(j.mem, v));
         let kernel = partition.kernel_pairs(j.mem).into_iter().map(|pair| pair.1);
         for page in hand.map(|(_, m)| m.page).chain(kernel) {
-            uses[page.0 as usize] += 1;
+            if let Some(count) = uses.get_mut(page.0 as usize) {
+                *count += 1;
+            }
         }
     }
     uses[1..].iter().all(|&count| count == 1)

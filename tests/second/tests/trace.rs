@@ -33,7 +33,7 @@ fn make_cover_and_damage() {
     assert_eq!(made.lines().count(), 301);
     assert_eq!(made, trace(&["make", "5", "300", "73"], ""));
     assert_eq!(trace(&["run"], &made).lines().count(), 301);
-    assert_eq!(trace(&["cover"], &made).lines().count(), 14);
+    assert_eq!(trace(&["cover"], &made).lines().count(), 16);
     let damaged = trace(&["damage", "5", "200"], &made);
     assert_eq!(damaged.lines().count(), 200);
     assert!(damaged.contains(" sound\n") && damaged.contains(" broken 1\n"));

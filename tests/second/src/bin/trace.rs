@@ -1,16 +1,18 @@
 //! Runs, makes and damages call sequences, for comparison with another kernel.
 
-use second::calls::call;
-use second::damage::{damage, second_use};
+use second::calls::{call, ARGUMENTS};
+use second::cover::Cover;
+use second::damage::{damage, wide_damage};
 use second::geometry::PAGE_WORDS;
 use second::make::make;
 use second::random::Random;
 use second::replay::replay;
 use second::sound::{broken, sound};
-use std::collections::BTreeMap;
 use std::io::{self, BufWriter, Read, Write};
 
-const USAGE: &str = "trace run | trace make SEED COUNT N | trace cover | trace damage SEED COUNT [wide] | trace replay | trace dump | trace judge";
+const USAGE: &str =
+    "trace run | trace make SEED COUNT N | trace cover | trace damage SEED COUNT [wide] | trace replay | trace dump \
+    | trace judge | trace runs [cover]";
 
 struct File {
     pages: usize,
@@ -30,6 +32,8 @@ fn main() {
         ["replay"] => print_replayed(&mut out),
         ["dump"] => read().and_then(|file| dump(&file, &mut out)),
         ["judge"] => print_broken(&mut out),
+        ["runs"] => print_runs(false, &mut out),
+        ["runs", "cover"] => print_runs(true, &mut out),
         _ => Err(io::Error::other(USAGE)),
     };
     if let Err(error) = done.and_then(|()| out.flush()) {
@@ -47,10 +51,54 @@ fn print_replayed(out: &mut impl Write) -> io::Result<()> {
 
 /// The broken sentences of the memory on standard input, little-endian words.
 fn print_broken(out: &mut impl Write) -> io::Result<()> {
+    writeln!(out, "{:?}", broken(&read_words()?))
+}
+
+/// Standard input as little-endian words.
+fn read_words() -> io::Result<Vec<u32>> {
     let mut bytes = Vec::new();
     io::stdin().lock().read_to_end(&mut bytes)?;
-    let words: Vec<u32> = bytes.chunks_exact(4).map(|b| u32::from_le_bytes([b[0], b[1], b[2], b[3]])).collect();
-    writeln!(out, "{:?}", broken(&words))
+    Ok(bytes.chunks_exact(4).map(|b| u32::from_le_bytes([b[0], b[1], b[2], b[3]])).collect())
+}
+
+/// What the program `runs` writes for its input on standard input (tests/runs), or how often each call gave each answer there.
+fn print_runs(only_cover: bool, out: &mut impl Write) -> io::Result<()> {
+    let (mut cover, mut lines) = (Cover::default(), String::new());
+    let mut words = read_words()?.into_iter();
+    while let Some(length @ 1..) = words.next() {
+        let mut mem = vec![7; length as usize];
+        while let Some(count @ 1..) = words.next() {
+            let part: Vec<u32> = words.by_ref().take(count as usize).collect();
+            let mut rest = &part[..];
+            while let Some((line, after)) = split_call(rest) {
+                let Some(answer) = call(&mut mem, line[0], &line[1..]) else { break };
+                cover.count(line[0] as usize, answer);
+                lines += &answer.map_or_else(|refusal| format!("no {refusal}\n"), |word| format!("ok {word}\n"));
+                rest = after;
+            }
+            lines += &format!("{}\n", hash32(&mem));
+        }
+    }
+    if !only_cover {
+        return write!(out, "{lines}");
+    }
+    writeln!(out, "{cover}")?;
+    let missing: Vec<_> = cover.missing().into_iter().filter(|pair| !pair.starts_with("record")).collect();
+    missing.is_empty().then_some(()).ok_or(io::Error::other(format!("not covered: {missing:?}")))
+}
+
+/// The first call of a sequence of words and the words behind it; none where its number is unknown or it is cut.
+fn split_call(words: &[u32]) -> Option<(&[u32], &[u32])> {
+    let arguments = match *words.first()? as usize {
+        0 => 0,
+        number => *ARGUMENTS.get(number - 1)?,
+    };
+    words.split_at_checked(1 + arguments)
+}
+
+/// FNV-1a of 32 bits over whole words.
+fn hash32(mem: &[u32]) -> u32 {
+    mem.iter().fold(2_166_136_261, |hash, word| (hash ^ word).wrapping_mul(16_777_619))
 }
 
 fn number(word: &str) -> io::Result<u32> {
@@ -120,35 +168,23 @@ fn print_made(seed: &str, count: &str, pages: &str, out: &mut impl Write) -> io:
     Ok(())
 }
 
-/// A table of calls and answers; ok stands in column 0.
+/// A table of calls and answers.
 fn cover(file: &File, out: &mut impl Write) -> io::Result<()> {
-    let mut counts: BTreeMap<(u32, u32), u32> = BTreeMap::new();
+    let mut cover = Cover::default();
     perform(file, |number, answer, _| {
-        *counts.entry((number, answer.err().unwrap_or(0))).or_default() += 1;
+        cover.count(number as usize, answer);
         Ok(())
     })?;
-    write!(out, "call     ok")?;
-    for refusal in 1..=16 {
-        write!(out, "{:>6}", format!("no {refusal}"))?;
-    }
-    for number in 0..=12 {
-        write!(out, "\n{number:4}")?;
-        for answer in 0..=16 {
-            let count = counts.get(&(number, answer)).map_or("-".to_string(), u32::to_string);
-            write!(out, " {count:>width$}", width = if answer == 0 { 6 } else { 5 })?;
-        }
-    }
-    writeln!(out)
+    writeln!(out, "{cover}")
 }
 
-/// Damages fresh copies of the final memory; with `wide`, some of them by giving a page a second use.
+/// Damages fresh copies of the final memory; with `wide`, some of them by more words than two.
 fn print_damaged(seed: &str, count: &str, wide: bool, out: &mut impl Write) -> io::Result<()> {
     let mem = perform(&read()?, |_, _, _| Ok(()))?;
     sound(&mem).map_err(|_| io::Error::other("nothing to damage"))?;
     let mut random = Random::new(number(seed)?);
     for _ in 0..number(count)? {
-        let wider = if wide && random.once_in(4) { second_use(&mem, &mut random) } else { None };
-        let changes = wider.unwrap_or_else(|| damage(&mem, &mut random));
+        let changes = if wide { wide_damage(&mem, &mut random) } else { damage(&mem, &mut random) };
         let mut copy = mem.clone();
         for (index, value) in changes {
             copy[index] = value;

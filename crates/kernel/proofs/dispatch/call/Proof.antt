@@ -2,7 +2,7 @@
 use mathlib.Core.Path.{ap, _∙_}
 use borrow.Author.Needs.{needs}
 use Rattle.rules.specs.Calls.{answer, after}
-use Rattle.kernel.specs.Sequence.{packed}
+use Rattle.answers.specs.Packed.{packed}
 use Rattle.kernel.proofs.Words.{call-of}
 use Rattle.kernel.proofs.dispatch.call.Statement.{statement}
 use Rattle.kernel.proofs.dispatch.call.Tie as tie

@@ -5,7 +5,7 @@ use Prim.Native.Nat.{ℕ}
 use native.Mathlib.Omega.{arith}
 use borrow.Author.Needs.{needs}
 use Rattle.rules.specs.Replay.{decimal}
-use Rattle.script.specs.Lines.{outcome}
+use Rattle.answers.specs.Packed.{outcome}
 use Rattle.script.proofs.Puts.{put-then, put-same, line-is}
 use Rattle.script.proofs.Lengths.{line-most}
 use Rattle.script.proofs.Decimals.{decimal-most}

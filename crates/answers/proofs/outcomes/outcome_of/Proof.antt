@@ -1,9 +1,9 @@
--- `script::outcomes::outcome_of` meets its contract. Each arm is its answer's. Assumes nothing.
+-- `answers::outcomes::outcome_of` meets its contract. Each arm is its answer's. Assumes nothing.
 use mathlib.Core.Path.{sym, ap}
 use borrow.Author.Needs.{needs}
 use Rattle.answers.specs.Said.{said}
-use Rattle.script.proofs.outcomes.outcome_of.Statement.{statement}
-use Rattle.script.proofs.outcomes.outcome_of.Tie as tie
+use Rattle.answers.proofs.outcomes.outcome_of.Statement.{statement}
+use Rattle.answers.proofs.outcomes.outcome_of.Tie as tie
 
 enum-known-a : tie.Need-enum-known-a
 enum-known-a c = search needs

@@ -1,8 +1,8 @@
-// What a transcript's line says of an answer.
-use answers::Answer;
+// An answer in two parts.
+use crate::Answer;
 ghost use mathlib.Core.Path.{_≡_};
 ghost use Rattle.answers.specs.Said.{said};
-ghost use Rattle.script.specs.Lines.{outcome, outcomeWord};
+ghost use Rattle.answers.specs.Packed.{outcome};
 
 // Ok with a word, or no with a refusal's number.
 pub struct Outcome(pub bool, pub u32);
@@ -31,14 +31,4 @@ pub fn outcome_of(a: Answer) -> Outcome
         Answer::Short => Outcome(false, 17),
         Answer::Magic => Outcome(false, 18),
     }
-}
-
-// " ok " or " no ".
-pub fn outcome_word(done: bool) -> [u8; 4]
-    ensures { λ r. ⌜ r ≡ outcomeWord done ⌝ }
-{
-    if done {
-        return [32, 111, 107, 32];
-    }
-    [32, 110, 111, 32]
 }

@@ -1,0 +1,39 @@
+//! The start-up record, read.
+use crate::raw;
+use crate::refusal::{done, Refusal};
+
+/// Bytes of a record.
+pub const RECORD_BYTES: usize = 76;
+
+/// Bytes of a record's revision, its last part.
+pub const REVISION_BYTES: usize = 64;
+
+/// A start-up record that is not refused.
+#[derive(Clone, Copy, Debug, PartialEq, Eq)]
+pub struct Record<'a> {
+    /// Where the root's pages begin.
+    pub begin: u32,
+    /// Where they end.
+    pub end: u32,
+    /// The revision, 64 bytes, as a part of the bytes that were read.
+    pub revision: &'a [u8],
+}
+
+/// Reads the record that the bytes begin with; more bytes are ignored.
+///
+/// Refusals: Short, Magic.
+pub fn read_record(bytes: &[u8]) -> Result<Record<'_>, Refusal> {
+    done(unsafe { raw::tumashqin_record_refusal(bytes.as_ptr(), bytes.len()) })?;
+    let revision = &bytes[RECORD_BYTES - REVISION_BYTES..RECORD_BYTES];
+    Ok(Record { begin: record_begin(bytes), end: record_end(bytes), revision })
+}
+
+/// The record's begin alone, or 0 where it is refused.
+pub fn record_begin(bytes: &[u8]) -> u32 {
+    unsafe { raw::tumashqin_record_begin(bytes.as_ptr(), bytes.len()) }
+}
+
+/// The record's end alone, or 0 where it is refused.
+pub fn record_end(bytes: &[u8]) -> u32 {
+    unsafe { raw::tumashqin_record_end(bytes.as_ptr(), bytes.len()) }
+}

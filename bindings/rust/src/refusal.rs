@@ -1,0 +1,109 @@
+//! Why a call was refused, and answers as results.
+use std::{error, fmt};
+
+/// Why a call was refused, by document 01's names. A call gives the first that applies, in its order.
+#[derive(Clone, Copy, Debug, PartialEq, Eq, Hash)]
+#[repr(u32)]
+pub enum Refusal {
+    /// Memory not sound.
+    Damaged = 1,
+    /// Format: length isn't 64N with N 16 to 256.
+    Size,
+    /// An address argument ≥ 2^20, on page 0, or not a multiple of 256 (load, store: of 4).
+    Address,
+    /// Two of the five equal.
+    Twice,
+    /// The caller's shadow 1 word there isn't 1: no child's descriptor.
+    Child,
+    /// Number above 7, or right not held.
+    Rights,
+    /// Page not in the caller's hand (remove_vaddr: not in the child's).
+    Hand,
+    /// The child has no three for target.
+    Table,
+    /// Target mapped, or its three exists (prepare).
+    Taken,
+    /// Three absent and 10 threes exist.
+    List,
+    /// A link is an address that `Address` would refuse (0 too) or repeats a page, or the chain is too long.
+    Chain,
+    /// Page table has a mapping.
+    FullTable,
+    /// Caller is 8 below the root.
+    Depth,
+    /// Root leaves.
+    Root,
+    /// No mapping there.
+    Unmapped,
+    /// Mapped, not accessible.
+    Kernel,
+    /// Record or revision buffer too short.
+    Short,
+    /// Record's magic wrong, or begin above end.
+    Magic,
+}
+
+use Refusal::*;
+
+impl Refusal {
+    /// Every refusal, by its number from 1 on.
+    pub const ALL: [Refusal; 18] = [
+        Damaged, Size, Address, Twice, Child, Rights, Hand, Table, Taken, List, Chain, FullTable, Depth, Root,
+        Unmapped, Kernel, Short, Magic,
+    ];
+
+    /// The refusal's number, 1 to 18.
+    pub fn number(self) -> u32 {
+        self as u32
+    }
+
+    /// The refusal of a number, if it has one.
+    pub fn from_number(number: u32) -> Option<Refusal> {
+        Refusal::ALL.into_iter().find(|refusal| refusal.number() == number)
+    }
+
+    /// A short message.
+    pub fn message(self) -> &'static str {
+        match self {
+            Damaged => "memory not sound",
+            Size => "length is not that of 16 to 256 pages",
+            Address => "bad address",
+            Twice => "two of the five addresses are equal",
+            Child => "no child there",
+            Rights => "a right that is not held, or no such right",
+            Hand => "page not in hand",
+            Table => "no tables for the target",
+            Taken => "target taken",
+            List => "ten threes of tables exist already",
+            Chain => "bad chain of pages",
+            FullTable => "page table has a mapping",
+            Depth => "too deep below the root",
+            Root => "the root cannot leave",
+            Unmapped => "no mapping there",
+            Kernel => "page not accessible",
+            Short => "buffer too short",
+            Magic => "not a record",
+        }
+    }
+}
+
+impl fmt::Display for Refusal {
+    fn fmt(&self, f: &mut fmt::Formatter<'_>) -> fmt::Result {
+        f.write_str(self.message())
+    }
+}
+
+impl error::Error for Refusal {}
+
+/// 0, or a refusal's number.
+pub(crate) fn done(number: u32) -> Result<(), Refusal> {
+    match number {
+        0 => Ok(()),
+        _ => Err(Refusal::from_number(number).expect("the library refuses by a number of document 01")),
+    }
+}
+
+/// A call's answer: its refusal's number times 2^32, plus its word.
+pub(crate) fn answered(answer: u64) -> Result<u32, Refusal> {
+    done((answer >> 32) as u32).map(|()| answer as u32)
+}

@@ -1,0 +1,66 @@
+//! Refusals: their numbers, and that a call which refuses changes no word.
+use tumashqin::{Memory, Refusal, PAGE_WORDS};
+
+/// What each of the twelve calls answers, with arguments that a sound memory would take.
+fn all_calls(memory: &mut Memory) -> [Result<u32, Refusal>; 12] {
+    [
+        memory.create_partition([256, 512, 768, 1024, 1280]),
+        memory.delete_partition(256),
+        memory.add_vaddr(2304, 256, 4096, 3),
+        memory.remove_vaddr(256, 4096),
+        memory.page_count(256, 4096),
+        memory.prepare(256, 4096, 1536),
+        memory.collect(256, 4096),
+        memory.mapped_in_child(2304),
+        memory.enter(256),
+        memory.leave(),
+        memory.load(2308),
+        memory.store(1536, 1),
+    ]
+}
+
+#[test]
+fn every_number_is_its_refusals() {
+    for (i, refusal) in Refusal::ALL.into_iter().enumerate() {
+        assert_eq!(refusal.number() as usize, i + 1);
+        assert_eq!(Refusal::from_number(refusal.number()), Some(refusal));
+        assert!(!refusal.to_string().is_empty());
+    }
+    assert_eq!(Refusal::from_number(0), None);
+    assert_eq!(Refusal::from_number(19), None);
+}
+
+#[test]
+fn damaged_memory_changes_by_no_call() {
+    let mut words = [0; 20 * PAGE_WORDS];
+    Memory::format(&mut words).unwrap();
+    words[0] = 21;
+    let before = words;
+    assert_eq!(all_calls(&mut Memory::over(&mut words)), [Err(Refusal::Damaged); 12]);
+    assert_eq!(words, before);
+}
+
+#[test]
+fn memory_of_a_wrong_length_changes_by_no_call() {
+    for length in [0, 1, 15 * PAGE_WORDS, 16 * PAGE_WORDS + 1, 257 * PAGE_WORDS] {
+        let mut words = vec![7; length];
+        assert_eq!(Memory::format(&mut words).unwrap_err(), Refusal::Size);
+        assert_eq!(all_calls(&mut Memory::over(&mut words)), [Err(Refusal::Damaged); 12]);
+        assert_eq!(words, vec![7; length]);
+    }
+}
+
+#[test]
+fn every_other_refusal_changes_no_word() {
+    let mut words = [0; 20 * PAGE_WORDS];
+    let mut memory = Memory::format(&mut words).unwrap();
+    let before = memory.words().to_vec();
+    assert_eq!(memory.load(1 << 20), Err(Refusal::Address));
+    assert_eq!(memory.load((1 << 20) - 256), Err(Refusal::Unmapped));
+    assert_eq!(memory.create_partition([256, 512, 768, 1024, 256]), Err(Refusal::Twice));
+    assert_eq!(memory.create_partition([256, 512, 768, 1024, 4096]), Err(Refusal::Hand));
+    assert_eq!(memory.enter(256), Err(Refusal::Child));
+    assert_eq!(memory.add_vaddr(256, 512, 768, 8), Err(Refusal::Rights));
+    assert_eq!(memory.leave(), Err(Refusal::Root));
+    assert_eq!(memory.words(), before);
+}

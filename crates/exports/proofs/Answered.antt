@@ -1,0 +1,56 @@
+-- What a caller reads of a call's packed answer, on memory of 32-bit words: the refusal above, the word below. Assumes nothing.
+use mathlib.Core.Path.{_≡_}
+use mathlib.Core.List.{List}
+use mathlib.Core.Bool.{Bool, true, false, cond}
+use Prim.Native.Nat.{ℕ, _/_, _%_, _^_, _<_}
+use native.Mathlib.Omega.{arith}
+use lib.Dec.{eqb}
+use lib.ListN.{getD}
+use Rattle.memory.specs.Geometry.{pageOf, tableIndex}
+use Rattle.memory.specs.Words.{index}
+use Rattle.memory.specs.Partition.{current, shadow1, tableAt, tableWord, lent}
+use Rattle.rules.specs.Call.{Call, formatAll, createPartition, deletePartition, addVAddr, removeVAddr, pageCount}
+use Rattle.rules.specs.Call.{prepare, collect, mappedInChild, enter, leave, load, store}
+use Rattle.rules.specs.Conditions.{child, noThree}
+use Rattle.rules.specs.Calls.{result, answer}
+use Rattle.rules.specs.Refusals.{refusal}
+use Rattle.answers.specs.Packed.{packed}
+use Rattle.exports.proofs.Replies.{upper-reply, lower-reply}
+
+cond-below : (t : Bool) {x y k : ℕ} → x < k → y < k → cond t x y < k
+cond-below true p q = p
+cond-below false p q = q
+
+module _ (b k : ℕ) (m : List ℕ) (room : 3 < k) (small : (i : ℕ) → getD m i 0 < k) where
+  none : 0 < k
+  none = omega arith
+
+  table-word-below : (root v : ℕ) → tableWord b m root v < k
+  unfolding tableWord
+  table-word-below root v = cond-below (eqb (tableAt b m root v) 0) none (small (index b (pageOf b (tableAt b m root v)) (tableIndex b v)))
+
+  -- a call answers 0, 3 or a word of the memory
+  pub result-below : (c : Call) → result b m c < k
+  unfolding result
+  result-below formatAll = none
+  result-below (createPartition p d s t l) = none
+  result-below (deletePartition c) = none
+  result-below (addVAddr p c t r) = none
+  result-below (removeVAddr c t) = table-word-below _ _
+  result-below (pageCount c t) = cond-below (noThree b m (child b m c) t) room none
+  result-below (prepare c t p) = none
+  result-below (collect c t) = small _
+  result-below (mappedInChild p) = cond-below (eqb (lent b m (current b m) p) 1) none (table-word-below (shadow1 b m (current b m)) (pageOf b p))
+  result-below (enter c) = none
+  result-below leave = none
+  result-below (load a) = small _
+  result-below (store a x) = none
+
+module _ (m : List ℕ) (words : (i : ℕ) → getD m i 0 < 2 ^ 32) (c : Call) where
+  pub upper-half : packed (answer 6 m c) / 2 ^ 32 ≡ refusal 6 m c
+  unfolding answer
+  upper-half = upper-reply (refusal 6 m c) (result 6 m c) (result-below 6 (2 ^ 32) m (omega arith) words c)
+
+  pub lower-half : packed (answer 6 m c) % 2 ^ 32 ≡ cond (eqb (refusal 6 m c) 0) (result 6 m c) 0
+  unfolding answer
+  lower-half = lower-reply (refusal 6 m c) (result 6 m c) (result-below 6 (2 ^ 32) m (omega arith) words c)

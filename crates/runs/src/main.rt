@@ -1,0 +1,22 @@
+// Runs sequences of calls and prints the answers. The input is little-endian words, for each memory the number of its words (0 ends the input), then
+// parts: for each the number of its words (0 ends the memory's parts) and these, calls one behind the other. Every word of a memory is 7 at first. The
+// output has a line for each call that is run and, for each part, the memory's hash; then what the start-up record's writer and reader say of the memory.
+pub mod hash;
+pub mod records;
+pub mod sequences;
+
+use sequences::run_memory;
+
+// At most 256 memories.
+fn main() {
+    for _k in 0u32..256 {
+        let n = input::next_word();
+        if n == 0 {
+            return;
+        }
+        if 16448 < n {
+            return;
+        }
+        run_memory(n);
+    }
+}

@@ -1,0 +1,130 @@
+/* Tumashqin: a memory-partition kernel over lent memory of 32-bit words.
+ *
+ * The functions are those of the crate `exports`, which are proved against the kernel's rules; `rt staticlib exports` writes the archive,
+ * target/staticlib/libexports.a, for x86-64. It calls memcpy and memset of the C library and nothing else.
+ *
+ * Slices. A slice is two arguments: a pointer to its first element, and its number of elements (words for uint32_t, bytes for uint8_t). The
+ * pointer is aligned for its type. Where the number is 0 the pointer is not looked at, and NULL will do; else it is not NULL.
+ * A function reads and writes nothing outside the given elements, keeps no pointer, allocates nothing, has no state of its own, and returns on
+ * any contents and any arguments. A slice that is written (`words` and `out` without const) overlaps no other slice of the call.
+ *
+ * Threads. One call at a time on the same words: while a call runs, no other thread writes its slices, nor reads those that it writes.
+ * Calls on different memories are independent. The deepest call needs under 4 KiB of stack (measured on the archive, not proved).
+ *
+ * Memory. A page is 64 words, and a memory is N pages, 16 to 256. Addresses are virtual, of the current partition, as plain numbers. The
+ * caller of every call is the current partition; format makes the root current. A call that refuses changes no word and no byte.
+ */
+#ifndef TUMASHQIN_H
+#define TUMASHQIN_H
+
+#include <stddef.h>
+#include <stdint.h>
+
+#ifdef __cplusplus
+extern "C" {
+#endif
+
+/* Why a call was refused. A call gives the first that applies, in the order that its comment below names. */
+enum tumashqin_refusal {
+    TUMASHQIN_DONE = 0,        /* no refusal */
+    TUMASHQIN_DAMAGED = 1,     /* memory not sound */
+    TUMASHQIN_SIZE = 2,        /* format: the length is not 64 N with N 16 to 256 */
+    TUMASHQIN_ADDRESS = 3,     /* an address of 2^20 or more, on page 0, or not a multiple of 256 (load, store: of 4) */
+    TUMASHQIN_TWICE = 4,       /* two of the five equal */
+    TUMASHQIN_CHILD = 5,       /* no child of the caller has its descriptor there */
+    TUMASHQIN_RIGHTS = 6,      /* rights above 7, or a right that is not held */
+    TUMASHQIN_HAND = 7,        /* page not in the caller's hand (remove_vaddr: not in the child's) */
+    TUMASHQIN_TABLE = 8,       /* the child has no three of tables for the target */
+    TUMASHQIN_TAKEN = 9,       /* target mapped, or its three exists (prepare) */
+    TUMASHQIN_LIST = 10,       /* three absent, and ten threes exist */
+    TUMASHQIN_CHAIN = 11,      /* a link is no page address or repeats a page, or the chain is too long */
+    TUMASHQIN_FULL_TABLE = 12, /* the page table has a mapping */
+    TUMASHQIN_DEPTH = 13,      /* the caller is 8 below the root */
+    TUMASHQIN_ROOT = 14,       /* the root leaves */
+    TUMASHQIN_UNMAPPED = 15,   /* no mapping there */
+    TUMASHQIN_KERNEL = 16,     /* mapped, not accessible */
+    TUMASHQIN_SHORT = 17,      /* record or revision buffer too short */
+    TUMASHQIN_MAGIC = 18       /* the record's magic is wrong, or its begin is above its end */
+};
+
+/* Rights of a page, to be added. */
+enum { TUMASHQIN_READ = 1, TUMASHQIN_WRITE = 2, TUMASHQIN_EXECUTE = 4 };
+
+/* Words of a page, bytes of a record, and bytes of its revision, which starts at byte 12 of a record. */
+enum { TUMASHQIN_PAGE_WORDS = 64, TUMASHQIN_RECORD_BYTES = 76, TUMASHQIN_REVISION_BYTES = 64, TUMASHQIN_REVISION_AT = 12 };
+
+/* A call answers its refusal's number times 2^32, plus its word: the refusal, and 0 where the call is done. */
+static inline uint32_t tumashqin_refusal_of(uint64_t answer) { return (uint32_t)(answer >> 32); }
+
+/* The word that a call answers: 0 unless its comment says another, and 0 where it is refused. */
+static inline uint32_t tumashqin_word_of(uint64_t answer) { return (uint32_t)answer; }
+
+/* Format: wipes all words, writes the header and the root partition, and maps every page left over in the root with all rights. Root is
+ * current. It asks nothing of what the words held. Answers 0, or SIZE. */
+uint32_t tumashqin_format(uint32_t *words, size_t length);
+
+/* 1. Takes five pages of the caller and makes a child of them, whose name is the descriptor's address.
+ * Refusals: DAMAGED, ADDRESS, TWICE, HAND, RIGHTS (write), DEPTH. */
+uint64_t tumashqin_create_partition(uint32_t *words, size_t length, uint32_t descriptor, uint32_t directory, uint32_t shadow1,
+                                    uint32_t shadow2, uint32_t list);
+
+/* 2. Ends a child. Its kernel pages and every lent page that is inaccessible come back wiped; other lent pages keep their words.
+ * Refusals: DAMAGED, ADDRESS, CHILD. */
+uint64_t tumashqin_delete_partition(uint32_t *words, size_t length, uint32_t child);
+
+/* 3. Lends a page to a child: maps it at target there, with these rights.
+ * Refusals: DAMAGED, ADDRESS, RIGHTS (above 7), CHILD, HAND, RIGHTS (not held), TABLE, TAKEN. */
+uint64_t tumashqin_add_vaddr(uint32_t *words, size_t length, uint32_t page, uint32_t child, uint32_t target, uint32_t rights);
+
+/* 4. Takes a lent page back from a child. Its word is the page's address in the caller.
+ * Refusals: DAMAGED, ADDRESS, CHILD, TABLE, UNMAPPED, HAND. */
+uint64_t tumashqin_remove_vaddr(uint32_t *words, size_t length, uint32_t child, uint32_t target);
+
+/* 5. How many pages `prepare` wants for target. Its word is 0 if the child has the three, else 3.
+ * Refusals: DAMAGED, ADDRESS, CHILD, LIST. */
+uint64_t tumashqin_page_count(const uint32_t *words, size_t length, uint32_t child, uint32_t target);
+
+/* 6. Takes three chained pages of the caller as the child's three of tables for target: word 0 of a page is the next page's address, the
+ * third's is 0. Refusals: DAMAGED, ADDRESS, CHILD, TAKEN, LIST; then for each page in turn CHAIN, HAND, RIGHTS (read and write); then CHAIN. */
+uint64_t tumashqin_prepare(uint32_t *words, size_t length, uint32_t child, uint32_t target, uint32_t first);
+
+/* 7. Gives the child's three for target back, wiped and chained again. Its word is the first page's address.
+ * Refusals: DAMAGED, ADDRESS, CHILD, TABLE, FULL_TABLE. */
+uint64_t tumashqin_collect(uint32_t *words, size_t length, uint32_t child, uint32_t target);
+
+/* 8. Its word is the descriptor address of the child that the page is lent to, or 0 if it is not lent.
+ * Refusals: DAMAGED, ADDRESS, UNMAPPED. */
+uint64_t tumashqin_mapped_in_child(const uint32_t *words, size_t length, uint32_t page);
+
+/* 9. The child is current. Refusals: DAMAGED, ADDRESS, CHILD. */
+uint64_t tumashqin_enter(uint32_t *words, size_t length, uint32_t child);
+
+/* 10. The parent is current. Refusals: DAMAGED, ROOT. */
+uint64_t tumashqin_leave(uint32_t *words, size_t length);
+
+/* 11. Its word is the word at the address. Refusals: DAMAGED, ADDRESS, UNMAPPED, KERNEL, RIGHTS (read). */
+uint64_t tumashqin_load(const uint32_t *words, size_t length, uint32_t address);
+
+/* 12. Writes the word at the address. Refusals: DAMAGED, ADDRESS, UNMAPPED, KERNEL, RIGHTS (write). */
+uint64_t tumashqin_store(uint32_t *words, size_t length, uint32_t address, uint32_t word);
+
+/* Writes the start-up record of a memory to the first 76 bytes of `out`, of which there are 76 or more; bytes past 76 stay. `revision` has 64
+ * bytes or more, and the first 64 count. Answers 0, or DAMAGED or SHORT. */
+uint32_t tumashqin_write_record(const uint32_t *words, size_t length, const uint8_t *revision, size_t revision_length, uint8_t *out,
+                                size_t out_length);
+
+/* Whether the bytes begin with a record: 0, or SHORT or MAGIC. Bytes past 76 are ignored. Of a record that is not refused, the revision is the
+ * 64 bytes from `bytes + TUMASHQIN_REVISION_AT` on. */
+uint32_t tumashqin_record_refusal(const uint8_t *bytes, size_t length);
+
+/* The record's begin, or 0 where it is refused. */
+uint32_t tumashqin_record_begin(const uint8_t *bytes, size_t length);
+
+/* The record's end, or 0 where it is refused. */
+uint32_t tumashqin_record_end(const uint8_t *bytes, size_t length);
+
+#ifdef __cplusplus
+}
+#endif
+
+#endif

@@ -1,0 +1,156 @@
+//! Ways to an answer that the table of calls and answers does not tell apart.
+
+use second::calls::{follow_chain, Answer};
+use second::geometry::*;
+use second::memory::{word, Mapping, Partition, IS_CHILD};
+use second::refusal::*;
+use second::tree::tree;
+
+/// A call, its answer and the memory before it.
+struct Look<'a> {
+    mem: &'a [u32],
+    line: &'a [u32],
+    answer: Answer,
+    caller: Partition,
+    /// Child and answer of the call before, if that was a collect from ten threes.
+    collected: Option<[u32; 2]>,
+}
+
+type Way = (&'static str, fn(&Look) -> bool);
+
+const WAYS: [Way; 23] = [
+    ("any call no 3: 2^20 or above", |l| l.address(|address| address >= VIRTUAL_END)),
+    ("any call no 3: on page 0", |l| l.address(|address| address < PAGE_BYTES)),
+    ("any call no 3: not a multiple", |l| l.address(|address| address % l.multiple() != 0)),
+    ("createPartition ok: the child is 8 below the root", |l| l.ok(1) && l.depth() == MOST_DEPTH - 1),
+    ("deletePartition ok: the child has children", |l| l.ok(2) && l.child().is_some_and(|c| has_children(l.mem, &c))),
+    ("addVAddr no 6: a number above 7", |l| l.no(3, RIGHTS) && l.line[4] > ALL_RIGHTS),
+    ("addVAddr no 6: a right not held", |l| l.no(3, RIGHTS) && l.line[4] <= ALL_RIGHTS),
+    ("removeVAddr no 7: lent on by the child", |l| l.no(4, HAND) && l.target().is_some_and(|m| m.accessible)),
+    ("removeVAddr no 7: taken by the child", |l| l.no(4, HAND) && l.target().is_some_and(|m| !m.accessible)),
+    ("prepare ok: the tenth three", |l| l.ok(6) && l.threes() == MOST_THREES - 1),
+    ("prepare ok: room and chain of the collect just before", |l| {
+        l.ok(6) && l.collected == Some([l.line[1], l.line[3]])
+    }),
+    ("prepare no 7: first page", |l| l.stops(HAND, 0)),
+    ("prepare no 7: second page", |l| l.stops(HAND, 1)),
+    ("prepare no 7: third page", |l| l.stops(HAND, 2)),
+    ("prepare no 6: first page", |l| l.stops(RIGHTS, 0)),
+    ("prepare no 6: second page", |l| l.stops(RIGHTS, 1)),
+    ("prepare no 6: third page", |l| l.stops(RIGHTS, 2)),
+    ("prepare no 11: no address for the second page", |l| l.stops(CHAIN, 1) && !l.again()),
+    ("prepare no 11: no address for the third page", |l| l.stops(CHAIN, 2) && !l.again()),
+    ("prepare no 11: a page again", |l| l.no(6, CHAIN) && !l.stops(CHAIN, 3) && l.again()),
+    ("prepare no 11: chain too long", |l| l.stops(CHAIN, 3)),
+    ("mappedInChild ok: 0 for a child's kernel page", |l| l.answer == Ok(0) && l.closed()),
+    ("mappedInChild ok: a lent page that is inaccessible", |l| l.answer != Ok(0) && l.closed()),
+];
+
+impl Look<'_> {
+    fn ok(&self, number: u32) -> bool {
+        self.line[0] == number && self.answer.is_ok()
+    }
+
+    fn no(&self, number: u32, refusal: u32) -> bool {
+        self.line[0] == number && self.answer == Err(refusal)
+    }
+
+    /// Refused as an address, with such an address among the arguments; rights and a word to be stored are none.
+    fn address(&self, bad: impl Fn(u32) -> bool) -> bool {
+        let addresses = match self.line {
+            [3, addresses @ .., _] | [12, addresses @ .., _] | [_, addresses @ ..] => addresses,
+            [] => &[],
+        };
+        self.answer == Err(ADDRESS) && addresses.iter().any(|&address| bad(address))
+    }
+
+    fn multiple(&self) -> u32 {
+        if matches!(self.line[0], 11 | 12) {
+            4
+        } else {
+            PAGE_BYTES
+        }
+    }
+
+    fn depth(&self) -> usize {
+        tree(self.mem).iter().find(|node| node.partition == self.caller).map_or(0, |node| node.depth)
+    }
+
+    /// The child that the first argument names.
+    fn child(&self) -> Option<Partition> {
+        let mapping = self.caller.mapping(self.mem, VPage::of(self.line[1]))?;
+        Some(Partition::at(self.mem, mapping.page))
+    }
+
+    fn threes(&self) -> usize {
+        self.child().map_or(0, |child| child.three_count(self.mem))
+    }
+
+    /// What the child has at the second argument.
+    fn target(&self) -> Option<Mapping> {
+        self.child()?.mapping(self.mem, VPage::of(self.line[2]))
+    }
+
+    /// Prepare is refused so after so many pages of its chain have passed.
+    fn stops(&self, refusal: u32, pages: usize) -> bool {
+        self.no(6, refusal) && self.chain().len() == pages
+    }
+
+    /// The pages of prepare's chain that pass.
+    fn chain(&self) -> Vec<(VPage, PPage)> {
+        let mut chain = Vec::new();
+        let _ = follow_chain(self.mem, &self.caller, self.line[3], &mut chain);
+        chain
+    }
+
+    /// Whether the link behind them names one of them.
+    fn again(&self) -> bool {
+        let chain = self.chain();
+        let link = chain.last().map_or(0, |&(_, page)| word(self.mem, page, 0));
+        chain.iter().any(|(v, _)| v.address() == link)
+    }
+
+    /// Mapped in child answers for an inaccessible page.
+    fn closed(&self) -> bool {
+        let mapping = self.ok(8).then(|| self.caller.mapping(self.mem, VPage::of(self.line[1])));
+        mapping.flatten().is_some_and(|m| !m.accessible)
+    }
+}
+
+fn has_children(mem: &[u32], partition: &Partition) -> bool {
+    partition.mappings(mem).any(|(v, _)| partition.shadow1(mem, v) == IS_CHILD)
+}
+
+#[derive(Default)]
+pub struct Ways {
+    counts: [u64; WAYS.len()],
+    collected: Option<[u32; 2]>,
+}
+
+impl Ways {
+    /// Counts a call with its answer, given the memory before it.
+    pub fn count(&mut self, mem: &[u32], line: &[u32], answer: Answer) {
+        let collected = self.collected.take();
+        if matches!(answer, Err(DAMAGED | SIZE)) {
+            return;
+        }
+        let look = Look { mem, line, answer, caller: Partition::current(mem), collected };
+        for (count, (_, holds)) in self.counts.iter_mut().zip(WAYS) {
+            *count += u64::from(holds(&look));
+        }
+        if let (&[7, child, _], Ok(first)) = (line, answer) {
+            self.collected = (look.threes() == MOST_THREES).then_some([child, first]);
+        }
+    }
+
+    pub fn add(&mut self, other: &Ways) {
+        for (own, other) in self.counts.iter_mut().zip(other.counts) {
+            *own += other;
+        }
+    }
+
+    /// Each way and how often it was met.
+    pub fn each(&self) -> impl Iterator<Item = (&'static str, u64)> {
+        WAYS.into_iter().map(|way| way.0).zip(self.counts)
+    }
+}
