@@ -1,6 +1,27 @@
 //! A call by its number and arguments, made in either version.
 
 use crate::ordinary::{self, Answer};
+use tumashqin::{Memory, Refusal};
+
+/// By number; format has none, and stands at 0.
+pub const NAMES: [&str; 13] = [
+    "format",
+    "createPartition",
+    "deletePartition",
+    "addVAddr",
+    "removeVAddr",
+    "pageCount",
+    "prepare",
+    "collect",
+    "mappedInChild",
+    "enter",
+    "leave",
+    "load",
+    "store",
+];
+
+/// Judges and does no more: load of an address that is no multiple of 4 is refused with 3 right after the judgement.
+pub const JUDGE: Call = Call { number: 11, arguments: [1, 0, 0, 0, 0] };
 
 /// A call's number, 0 for format, and its arguments; those that it does not have are 0.
 #[derive(Clone, Copy, Debug)]
@@ -33,5 +54,28 @@ impl Call {
             11 => ordinary::load(words, a),
             _ => ordinary::store(words, a, b),
         }
+    }
+
+    pub fn proved(&self, words: &mut [u32]) -> Answer {
+        let [a, b, c, d, _] = self.arguments;
+        let mut memory = match self.number {
+            0 => return Memory::format(words).map(|_| 0).map_err(Refusal::number),
+            _ => Memory::over(words),
+        };
+        let answer = match self.number {
+            1 => memory.create_partition(self.arguments),
+            2 => memory.delete_partition(a),
+            3 => memory.add_vaddr(a, b, c, d),
+            4 => memory.remove_vaddr(a, b),
+            5 => memory.page_count(a, b),
+            6 => memory.prepare(a, b, c),
+            7 => memory.collect(a, b),
+            8 => memory.mapped_in_child(a),
+            9 => memory.enter(a),
+            10 => memory.leave(),
+            11 => memory.load(a),
+            _ => memory.store(a, b),
+        };
+        answer.map_err(Refusal::number)
     }
 }

@@ -1,8 +1,12 @@
 //! Damaged memories: sound ones with a word changed late, and ones made to cost a judge as much as they can.
 
+use crate::call::JUDGE;
+use crate::measure::rough;
+use second::damage::wide_damage;
 use second::geometry::{PPage, VPage};
 use second::memory::{Partition, CURRENT};
 use second::random::Random;
+use second::sound::sound as is_sound;
 use second::tree::{tree, Node};
 
 pub struct Damaged {
@@ -12,6 +16,9 @@ pub struct Damaged {
 
 const PAGE: usize = 64;
 const ALL_RIGHTS: u32 = 28;
+
+/// How many random damages the costliest is chosen from.
+const TRIES: usize = 600;
 
 /// All of them, the ones of small change from a sound memory whose tree is the given one.
 pub fn damaged(sound: &[u32]) -> Vec<Damaged> {
@@ -30,6 +37,7 @@ pub fn damaged(sound: &[u32]) -> Vec<Damaged> {
         Damaged { name: "every page a child, tables shared", words: all_children(pages) },
         Damaged { name: "random below the root", words: noise(PAGE * (6 + 3 * sound[1] as usize)) },
         Damaged { name: "random", words: noise(0) },
+        Damaged { name: "costliest of random changes", words: costliest(sound) },
         Damaged { name: "all zeros", words: vec![0; sound.len()] },
         Damaged { name: "all ones", words: vec![u32::MAX; sound.len()] },
     ];
@@ -37,7 +45,15 @@ pub fn damaged(sound: &[u32]) -> Vec<Damaged> {
     all
 }
 
-fn with(sound: &[u32], change: impl Fn(&mut [u32])) -> Vec<u32> {
+/// Of many random changes of a few words, the one that the proved judge takes longest over.
+fn costliest(sound: &[u32]) -> Vec<u32> {
+    let mut random = Random::new(11);
+    let changed = |_| with(sound, |m| wide_damage(sound, &mut random).into_iter().for_each(|(i, word)| m[i] = word));
+    let damaged = (0..TRIES).map(changed).filter(|words| is_sound(words).is_err());
+    damaged.max_by_key(|words| rough(JUDGE, words)).unwrap_or_else(|| sound.to_vec())
+}
+
+fn with(sound: &[u32], change: impl FnOnce(&mut [u32])) -> Vec<u32> {
     let mut words = sound.to_vec();
     change(&mut words);
     words

@@ -1,22 +1,18 @@
-//! Memories to measure on: trees built by a script of calls, each of which passes.
+//! Memories to measure on: trees of several shapes, each by a recipe for any number of pages.
 
-use crate::call::Call;
+use crate::builder::{Builder, Step};
+use second::tree::tree;
 
-/// The directory index at which every child has its first three, so that virtual page 0 stands in none of its tables.
-const FIRST_INDEX: u32 = 1;
 const MOST_DEPTH: usize = 8;
-const ALL_RIGHTS: u32 = 7;
+const MOST_THREES: usize = 10;
 
-/// A call that passes, and the memory just before it.
-pub struct Step {
-    pub call: Call,
-    pub before: Vec<u32>,
-}
-
-/// A tree and the calls that built it and were tried on it.
+/// A tree, the calls that built it and those tried on it.
 pub struct Scenario {
-    pub name: String,
-    pub steps: Vec<Step>,
+    pub name: &'static str,
+    /// Calls that pass.
+    steps: Vec<Step>,
+    /// Calls that are refused after the judgement.
+    pub refused: Vec<Step>,
     /// The memory when the tree was whole.
     pub whole: Vec<u32>,
 }
@@ -26,181 +22,99 @@ impl Scenario {
         self.whole.len() / 64
     }
 
+    pub fn title(&self) -> String {
+        format!("{} {}", self.pages(), self.name)
+    }
+
     /// The last time that a call was made, mostly on the whole tree.
     pub fn last(&self, number: u32) -> Option<&Step> {
         self.steps.iter().rev().find(|step| step.call.number == number)
+    }
+
+    /// The last child of the tree ends; without one the tree is the root alone.
+    fn of(name: &'static str, mut built: Builder, child: Option<u32>) -> Scenario {
+        let whole = built.memory.clone();
+        let mut refused = Vec::new();
+        if let Some(child) = child {
+            refused = built.refused(child);
+            built.finish(child);
+        }
+        Scenario { name, steps: built.steps, refused, whole }
     }
 }
 
 /// Kernel pages of a sound memory: page 0, and each page that is a partition's or a table.
 pub fn kernel_pages(memory: &[u32]) -> usize {
-    let nodes = second::tree::tree(memory);
-    1 + nodes.iter().map(|node| node.partition.kernel_pairs(memory).len()).sum::<usize>()
+    1 + tree(memory).iter().map(|node| node.partition.kernel_pairs(memory).len()).sum::<usize>()
 }
 
-struct Builder {
-    memory: Vec<u32>,
-    steps: Vec<Step>,
-    /// Addresses of the pages in the hand of the caller, and of its ancestors.
-    hands: Vec<Vec<u32>>,
+/// Mappings of all partitions.
+pub fn mappings(memory: &[u32]) -> usize {
+    tree(memory).iter().map(|node| node.partition.mappings(memory).count()).sum()
 }
 
-impl Builder {
-    fn new(pages: usize) -> Builder {
-        let threes = (pages as u32 - 5).div_ceil(67);
-        let flat = pages as u32 - 6 - 3 * threes;
-        let mut built = Builder {
-            memory: vec![0; 64 * pages],
-            steps: Vec::new(),
-            hands: vec![(1..=flat).rev().map(|v| 256 * v).collect()],
-        };
-        built.call(0, &[]);
-        built
-    }
-
-    fn call(&mut self, number: u32, arguments: &[u32]) -> u32 {
-        let call = Call::new(number, arguments);
-        self.steps.push(Step { call, before: self.memory.clone() });
-        call.ordinary(&mut self.memory).unwrap_or_else(|refusal| panic!("{call:?} refused with {refusal}"))
-    }
-
-    fn hand(&mut self) -> &mut Vec<u32> {
-        self.hands.last_mut().expect("a caller")
-    }
-
-    fn left(&self) -> usize {
-        self.hands.last().map_or(0, Vec::len)
-    }
-
-    fn take(&mut self) -> u32 {
-        self.hand().pop().expect("a page in hand")
-    }
-
-    fn create(&mut self) -> u32 {
-        let five = [(); 5].map(|()| self.take());
-        self.call(1, &five);
-        five[0]
-    }
-
-    fn prepare(&mut self, child: u32, index: u32) {
-        let three = [(); 3].map(|()| self.take());
-        for (page, link) in [(three[0], three[1]), (three[1], three[2]), (three[2], 0)] {
-            self.call(12, &[page, link]);
-        }
-        self.call(6, &[child, index << 14, three[0]]);
-    }
-
-    /// Collects a three and prepares it again with the same chain.
-    fn prepare_again(&mut self, child: u32, index: u32) {
-        let first = self.call(7, &[child, index << 14]);
-        self.call(6, &[child, index << 14, first]);
-    }
-
-    /// Takes a lent page back and lends it again.
-    fn lend_again(&mut self, child: u32, target: u32) {
-        let page = self.call(4, &[child, target]);
-        self.call(3, &[page, child, target, ALL_RIGHTS]);
-    }
-
-    /// Lends so many pages from a directory index on, and answers the last target.
-    fn lend(&mut self, child: u32, pages: usize) -> u32 {
-        let mut target = FIRST_INDEX << 14;
-        for _ in 0..pages {
-            let page = self.take();
-            self.call(3, &[page, child, target, ALL_RIGHTS]);
-            target += 256;
-        }
-        target - 256
-    }
-
-    fn enter(&mut self, child: u32, pages: usize) {
-        self.call(9, &[child]);
-        self.hands.push((0..pages as u32).rev().map(|k| (FIRST_INDEX << 14) + 256 * k).collect());
-    }
-
-    /// The calls that look at the tree and change nothing of it.
-    fn look(&mut self, child: u32) {
-        self.call(5, &[child, FIRST_INDEX << 14]);
-        self.call(8, &[child]);
-        self.call(9, &[child]);
-        self.call(10, &[]);
-    }
-
-    fn touch(&mut self, page: u32) {
-        self.call(12, &[page + 252, 77]);
-        self.call(11, &[page + 252]);
-    }
-
-    fn scenario(self, name: &str, whole: Vec<u32>) -> Scenario {
-        Scenario { name: name.to_string(), steps: self.steps, whole }
-    }
-}
-
-/// One child without tables: with 16 pages the root has two pages left.
+/// One child with as many threes as there are pages for: with 16 pages none.
 pub fn one_child(pages: usize) -> Scenario {
     let mut built = Builder::new(pages);
     let child = built.create();
-    let whole = built.memory.clone();
-    let page = built.take();
-    built.touch(page);
-    built.look(child);
-    built.call(2, &[child]);
-    built.scenario("one child", whole)
+    let threes = (built.left() / 3).min(MOST_THREES);
+    built.prepare(child, threes);
+    Scenario::of("one child", built, Some(child))
 }
 
-/// Each partition has one child, down to the deepest level for which there are pages, with so many threes each.
-pub fn deep(pages: usize, threes: u32) -> Scenario {
+/// A chain of partitions, each with so many threes, down to the deepest level or as far as there are pages; each lends on all that it has left.
+fn chain(name: &'static str, pages: usize, threes: usize) -> Scenario {
     let mut built = Builder::new(pages);
-    let mut child = 0;
-    for level in 1..=MOST_DEPTH {
-        let wanted = 5 + 3 * threes as usize;
-        if built.left() < 5 {
-            break;
-        }
-        child = built.create();
-        if level == MOST_DEPTH || built.left() + 5 < wanted + 2 {
-            break;
-        }
-        for index in FIRST_INDEX..FIRST_INDEX + threes {
-            built.prepare(child, index);
-        }
-        built.prepare_again(child, FIRST_INDEX);
-        let lent = built.left();
-        let target = built.lend(child, lent);
-        built.lend_again(child, target);
+    let mut child = built.create();
+    for _ in 1..MOST_DEPTH {
+        let Some(lent @ 5..) = built.left().checked_sub(3 * threes) else { break };
+        built.prepare(child, threes);
+        (0..lent).for_each(|k| built.lend(child, k));
+        built.lend_again(child, lent - 1);
         built.enter(child, lent);
+        child = built.create();
     }
-    let whole = built.memory.clone();
-    if built.left() > 0 {
-        let page = built.take();
-        built.touch(page);
-    }
-    built.look(child);
-    built.call(2, &[child]);
-    built.scenario("deep", whole)
+    Scenario::of(name, built, Some(child))
 }
 
-/// As many children of the root as there are pages for, each with so many threes and lent pages.
-pub fn broad(pages: usize, threes: u32, lent: usize) -> Scenario {
+/// As many threes as fit, so that most pages are kernel pages.
+pub fn deep(pages: usize) -> Scenario {
+    let left = Builder::new(pages).left().saturating_sub(5 * MOST_DEPTH);
+    chain("deep", pages, (left / (3 * (MOST_DEPTH - 1))).clamp(1, MOST_THREES))
+}
+
+/// As few threes as the lent pages need, so that there are many mappings for each kernel page.
+pub fn deep_few_tables(pages: usize) -> Scenario {
+    chain("deep, few tables", pages, Builder::new(pages).left().div_ceil(64))
+}
+
+/// As many children of the root as there are pages for, each with so many threes and lent pages; these are lent in turn.
+fn children(name: &'static str, pages: usize, threes: usize, lent: usize) -> Scenario {
     let mut built = Builder::new(pages);
-    let mut child = 0;
-    while built.left() >= 5 + 3 * threes as usize + lent {
-        child = built.create();
-        for index in FIRST_INDEX..FIRST_INDEX + threes {
-            built.prepare(child, index);
-        }
-        if threes > 0 {
-            built.prepare_again(child, FIRST_INDEX);
-            let target = built.lend(child, lent);
-            built.lend_again(child, target);
-        }
+    let mut all = Vec::new();
+    while built.left() >= 5 + 3 * threes + (all.len() + 1) * lent {
+        let child = built.create();
+        built.prepare(child, threes);
+        all.push(child);
     }
-    let whole = built.memory.clone();
-    if built.left() > 0 {
-        let page = built.take();
-        built.touch(page);
+    for k in 0..lent {
+        all.iter().for_each(|&child| built.lend(child, k));
+        all.last().into_iter().for_each(|&child| built.lend_again(child, k));
     }
-    built.look(child);
-    built.call(2, &[child]);
-    built.scenario(if threes > 0 { "broad" } else { "broad, bare children" }, whole)
+    Scenario::of(name, built, all.last().copied())
+}
+
+/// One three and one lent page each.
+pub fn broad(pages: usize) -> Scenario {
+    children("broad", pages, 1, 1)
+}
+
+/// One three each, and twenty lent pages.
+pub fn broad_few_tables(pages: usize) -> Scenario {
+    children("broad, few tables", pages, 1, 20)
+}
+
+/// Children without tables.
+pub fn bare(pages: usize) -> Scenario {
+    children("bare", pages, 0, 0)
 }

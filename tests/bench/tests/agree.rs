@@ -1,22 +1,25 @@
-//! The ordinary version does what the independent program of tests/second does: on guided random calls, and on damaged memories.
+//! The ordinary version and the proved kernel do what the independent program of tests/second does: on guided random calls, and on damaged memories.
 
-use bench::call::Call;
+use bench::call::{Call, JUDGE};
 use bench::ordinary::is_sound;
 use second::calls::call;
-use second::damage::{damage, second_use};
+use second::damage::wide_damage;
 use second::make::make;
 use second::random::Random;
 use second::sound::sound;
 
 const SIZES: [usize; 8] = [16, 20, 33, 72, 73, 120, 200, 256];
 
-/// Guided random calls on both, with every word compared after each; then what the caller does with the memory.
-fn both(seed: u32, calls: usize, pages: usize, mut then: impl FnMut(&[u32])) {
+/// Guided random calls on all three, with every word compared after each; then what the caller does with the memory.
+fn all(seed: u32, calls: usize, pages: usize, mut then: impl FnMut(&[u32])) {
     let mut ordinary = vec![0; 64 * pages];
-    let mut other = ordinary.clone();
+    let (mut proved, mut other) = (ordinary.clone(), ordinary.clone());
     for line in std::iter::once(vec![0]).chain(make(seed, calls, pages)) {
-        let answer = Call::new(line[0], &line[1..]).ordinary(&mut ordinary);
+        let made = Call::new(line[0], &line[1..]);
+        let answer = made.ordinary(&mut ordinary);
+        assert_eq!(answer, made.proved(&mut proved), "{line:?}");
         assert_eq!(Some(answer), call(&mut other, line[0], &line[1..]), "{line:?}");
+        assert_eq!(ordinary, proved, "{line:?}");
         assert_eq!(ordinary, other, "{line:?}");
         then(&ordinary);
     }
@@ -25,7 +28,7 @@ fn both(seed: u32, calls: usize, pages: usize, mut then: impl FnMut(&[u32])) {
 #[test]
 fn calls() {
     for (pages, seed) in SIZES.into_iter().zip(1..) {
-        both(seed, 6000, pages, |_| ());
+        all(seed, 6000, pages, |_| ());
     }
 }
 
@@ -35,17 +38,17 @@ fn verdicts_on_damaged_memories() {
     let mut counts = [0; 2];
     for (pages, seed) in SIZES.into_iter().zip(100..) {
         let mut turn = 0;
-        both(seed, 3000, pages, |memory| {
+        all(seed, 3000, pages, |memory| {
             turn += 1;
-            for k in 0..if turn % 8 == 0 { 12 } else { 1 } {
-                let wide = (k % 4 == 3).then(|| second_use(memory, &mut random)).flatten();
+            for _ in 0..if turn % 8 == 0 { 12 } else { 1 } {
                 let mut changed = memory.to_vec();
-                for (index, word) in wide.unwrap_or_else(|| damage(memory, &mut random)) {
+                for (index, word) in wide_damage(memory, &mut random) {
                     changed[index] = word;
                 }
                 let expected = sound(&changed).is_ok();
                 counts[usize::from(expected)] += 1;
                 assert_eq!(is_sound(&changed), expected);
+                assert_eq!(JUDGE.proved(&mut changed), Err(if expected { 3 } else { 1 }));
             }
         });
     }
@@ -59,6 +62,7 @@ fn lengths_that_are_not_permitted() {
         for number in 0..=12 {
             let refusal = if number == 0 { 2 } else { 1 };
             assert_eq!(Call::new(number, &[]).ordinary(&mut memory), Err(refusal));
+            assert_eq!(Call::new(number, &[]).proved(&mut memory), Err(refusal));
         }
         assert!(memory.iter().all(|&word| word == 7));
     }

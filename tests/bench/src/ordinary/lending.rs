@@ -12,10 +12,10 @@ pub fn add_vaddr(words: &mut [u32], page: u32, child: u32, target: u32, rights: 
     let caller = m.caller();
     let child = caller.child(&m, at)?;
     let word = caller.in_hand(&m, page)?;
-    require(4 * rights & !word == 0, RIGHTS)?;
+    require((4 * rights) & !word == 0, RIGHTS)?;
     require(child.has_three(&m, target), TABLE)?;
     require(child.mapping(&m, target) == 0, TAKEN)?;
-    m.set_table_word(child.directory, target, word & !RIGHTS_BITS | 4 * rights);
+    m.set_table_word(child.directory, target, word & !RIGHTS_BITS | (4 * rights));
     m.set_table_word(child.shadow2, target, page.address());
     m.set_table_word(caller.shadow1, page, at.address());
     Ok(0)
