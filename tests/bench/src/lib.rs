@@ -1,0 +1,10 @@
+//! The proved kernel measured beside an ordinary Rust version of the same rules.
+
+pub mod builder;
+pub mod call;
+pub mod damaged;
+pub mod measure;
+pub mod ordinary;
+pub mod report;
+pub mod scenario;
+pub mod table;

@@ -1,0 +1,77 @@
+//! Partitions made and deleted.
+
+use super::address::*;
+use super::memory::*;
+use super::moves::{give_back, take};
+use super::partition::{pages_at, Partition};
+use super::refusal::*;
+
+pub fn create_partition(words: &mut [u32], five: [u32; 5]) -> Answer {
+    let mut m = Memory::judged(words)?;
+    let group = pages_at(five)?;
+    require((1..5).all(|i| !group[..i].contains(&group[i])), TWICE)?;
+    let caller = m.caller();
+    let mut held = [0; 5];
+    for (word, &v) in held.iter_mut().zip(&group) {
+        *word = caller.in_hand(&m, v)?;
+    }
+    require(held.iter().all(|word| word & WRITE != 0), RIGHTS)?;
+    require(depth(&m, &caller) < MOST_DEPTH, DEPTH)?;
+    for &v in &group {
+        take(&mut m, &caller, v);
+    }
+    let descriptor = m.page_mut(PPage::of(held[0]));
+    for (k, (v, word)) in group.iter().zip(held).enumerate() {
+        descriptor[2 * k] = v.address();
+        descriptor[2 * k + 1] = word & FRAME;
+    }
+    descriptor[PARENT] = caller.descriptor.address();
+    m.page_mut(PPage::of(held[4]))[0] = 1;
+    m.set_table_word(caller.shadow1, group[0], IS_CHILD);
+    Ok(0)
+}
+
+/// How far below the root.
+fn depth(m: &Memory, partition: &Partition) -> u32 {
+    let (mut own, mut depth) = (*partition, 0);
+    while !own.is_root() {
+        own = Partition::at(m, own.parent);
+        depth += 1;
+    }
+    depth
+}
+
+pub fn delete_partition(words: &mut [u32], child: u32) -> Answer {
+    let mut m = Memory::judged(words)?;
+    let [at] = pages_at([child])?;
+    let caller = m.caller();
+    let child = caller.child(&m, at)?;
+    // What is read of the child is read before its pages are wiped.
+    let (descriptor, list) = (*m.page(child.descriptor), *m.page(child.list));
+    m.set_table_word(caller.shadow1, at, 0);
+    call_in_lent(&mut m, &caller, at);
+    let listed = list[1..list[0] as usize].iter().step_by(2);
+    for &address in descriptor[..10].iter().step_by(2).chain(listed) {
+        give_back(&mut m, &caller, VPage::of(address));
+    }
+    Ok(0)
+}
+
+/// Ends the lending of all pages lent to the child at an address, and returns those that are inaccessible.
+fn call_in_lent(m: &mut Memory, caller: &Partition, child: VPage) {
+    for i in 0..PAGE_WORDS {
+        let (link, shadow1) = (m.page(caller.directory)[i], m.page(caller.shadow1)[i]);
+        if link == 0 {
+            continue;
+        }
+        for j in 0..PAGE_WORDS {
+            let lent_to = &mut m.page_mut(PPage::of(shadow1))[j];
+            if *lent_to == child.address() {
+                *lent_to = 0;
+                if m.page(PPage::of(link))[j] & ACCESSIBLE == 0 {
+                    give_back(m, caller, VPage((i * PAGE_WORDS + j) as u32));
+                }
+            }
+        }
+    }
+}

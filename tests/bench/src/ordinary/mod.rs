@@ -1,0 +1,21 @@
+//! Document 01's rules in ordinary Rust, written for speed and clarity and not proved: what the proved kernel is measured beside.
+
+mod access;
+mod address;
+mod format;
+mod judge;
+mod lending;
+mod making;
+mod memory;
+mod moves;
+mod partition;
+mod refusal;
+mod threes;
+
+pub use access::{enter, leave, load, store};
+pub use format::format;
+pub use judge::is_sound;
+pub use lending::{add_vaddr, mapped_in_child, remove_vaddr};
+pub use making::{create_partition, delete_partition};
+pub use refusal::Answer;
+pub use threes::{collect, page_count, prepare};

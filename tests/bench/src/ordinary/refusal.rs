@@ -1,0 +1,29 @@
+//! The numbers the kernel refuses with.
+
+/// A word, or the number of the first refusal.
+pub type Answer = Result<u32, u32>;
+
+pub const DAMAGED: u32 = 1;
+pub const SIZE: u32 = 2;
+pub const ADDRESS: u32 = 3;
+pub const TWICE: u32 = 4;
+pub const CHILD: u32 = 5;
+pub const RIGHTS: u32 = 6;
+pub const HAND: u32 = 7;
+pub const TABLE: u32 = 8;
+pub const TAKEN: u32 = 9;
+pub const LIST: u32 = 10;
+pub const CHAIN: u32 = 11;
+pub const FULL_TABLE: u32 = 12;
+pub const DEPTH: u32 = 13;
+pub const ROOT: u32 = 14;
+pub const UNMAPPED: u32 = 15;
+pub const KERNEL: u32 = 16;
+
+pub fn require(holds: bool, refusal: u32) -> Result<(), u32> {
+    if holds {
+        Ok(())
+    } else {
+        Err(refusal)
+    }
+}

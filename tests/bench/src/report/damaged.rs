@@ -1,0 +1,60 @@
+//! The judge on damaged memories, beside the sound memory of the same scenario.
+
+use super::{ratio, Bar};
+use crate::call::JUDGE;
+use crate::damaged::damaged;
+use crate::measure::{Bench, Row, Times};
+use crate::scenario::Scenario;
+use crate::table::Table;
+
+/// "damaged memory never costs more than twice the sound memory of that size"
+const MOST: f64 = 2.0;
+
+pub struct Damages {
+    title: String,
+    sound: Row,
+    damaged: Vec<(&'static str, Row)>,
+}
+
+impl Damages {
+    pub fn of(scenario: &Scenario, bench: &mut Bench) -> Damages {
+        let damaged = damaged(&scenario.whole).into_iter().map(|damaged| {
+            let row = bench.add(JUDGE, &damaged.words);
+            assert_eq!(bench.answer(row), Err(1), "{}", damaged.name);
+            (damaged.name, row)
+        });
+        let damaged = damaged.collect();
+        Damages { title: scenario.title(), sound: bench.add(JUDGE, &scenario.whole), damaged }
+    }
+
+    fn shares<'a>(&'a self, bench: &'a Bench) -> impl Iterator<Item = (&'static str, Times)> + 'a {
+        let sound = bench.times(self.sound);
+        self.damaged.iter().map(move |&(name, row)| {
+            let times = bench.times(row);
+            (name, Times { proved: times.proved / sound.proved, ordinary: times.ordinary / sound.ordinary })
+        })
+    }
+}
+
+/// A kind of damage in a line, a scenario in a column.
+pub fn table(all: &[Damages], bench: &Bench) -> Table {
+    let head: Vec<&str> = std::iter::once("").chain(all.iter().map(|damages| damages.title.as_str())).collect();
+    let title = "Damaged memory's cost over the sound one's, and in brackets the ordinary version's";
+    let mut table = Table::new(title, &head);
+    let names = all.iter().max_by_key(|damages| damages.damaged.len()).map_or(&[][..], |damages| &damages.damaged);
+    for &(name, _) in names {
+        let cell = |damages: &Damages| {
+            let share = damages.shares(bench).find(|share| share.0 == name);
+            share.map_or(String::new(), |(_, share)| format!("{} ({})", ratio(share.proved), ratio(share.ordinary)))
+        };
+        table.rows.push(std::iter::once(name.to_string()).chain(all.iter().map(cell)).collect());
+    }
+    table
+}
+
+pub fn bar(all: &[Damages], bench: &Bench) -> Bar {
+    let figures = all.iter().flat_map(|damages| {
+        damages.shares(bench).map(|(name, share)| (share.proved, format!("{}: {name}", damages.title)))
+    });
+    Bar::new("damaged memory over the sound", MOST, figures)
+}

@@ -1,0 +1,61 @@
+//! Wiping a page: createPartition takes five pages and deletePartition returns a child's, each wiped; the judge's cost is taken off.
+
+use super::ratio;
+use crate::builder::Step;
+use crate::call::JUDGE;
+use crate::measure::{Bench, Row, Times};
+use crate::scenario::{kernel_pages, Scenario};
+use crate::table::Table;
+
+/// A call that wipes pages, and the judge on the same memory.
+struct Wiped {
+    pages: usize,
+    call: Row,
+    judge: Row,
+}
+
+impl Wiped {
+    fn of(step: &Step, bench: &mut Bench) -> Wiped {
+        let mut after = step.before.clone();
+        let _ = step.call.ordinary(&mut after);
+        Wiped {
+            pages: kernel_pages(&step.before).abs_diff(kernel_pages(&after)),
+            call: bench.add(step.call, &step.before),
+            judge: bench.add(JUDGE, &step.before),
+        }
+    }
+
+    /// For each page, with all else that the call does after the judgement.
+    fn cells(&self, bench: &Bench) -> [String; 4] {
+        let (call, judge) = (bench.times(self.call), bench.times(self.judge));
+        let page = |call: f64, judge: f64| (call - judge) / self.pages as f64;
+        let times = Times { proved: page(call.proved, judge.proved), ordinary: page(call.ordinary, judge.ordinary) };
+        let [proved, ordinary] = [times.proved, times.ordinary].map(|time| format!("{time:.1}"));
+        [self.pages.to_string(), proved, ordinary, ratio(times.ratio())]
+    }
+}
+
+pub struct Wiping {
+    title: String,
+    create: Wiped,
+    delete: Wiped,
+}
+
+impl Wiping {
+    pub fn of(scenario: &Scenario, bench: &mut Bench) -> Wiping {
+        let mut wiped = |number| Wiped::of(scenario.last(number).expect("a child that is made and ended"), bench);
+        Wiping { title: scenario.title(), create: wiped(1), delete: wiped(2) }
+    }
+}
+
+pub fn table(all: &[Wiping], bench: &Bench) -> Table {
+    let title = "Wiping a page: createPartition and deletePartition less the judge, by page taken and returned";
+    let head = ["", "taken", "proved", "ordinary", "ratio", "returned", "proved", "ordinary", "ratio"];
+    let mut table = Table::new(title, &head);
+    for wiping in all {
+        let [a, b, c, d] = wiping.create.cells(bench);
+        let [e, f, g, h] = wiping.delete.cells(bench);
+        table.row([wiping.title.clone(), a, b, c, d, e, f, g, h]);
+    }
+    table
+}

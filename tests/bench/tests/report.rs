@@ -1,0 +1,21 @@
+//! The measuring program, in one short round: nothing is left out of its tables. The figures are not looked at.
+
+use bench::report::Report;
+use std::time::Duration;
+
+#[test]
+fn tables() {
+    let report = Report::measure(Duration::ZERO);
+    assert_eq!(report.calls.len(), 8);
+    for table in &report.calls {
+        assert_eq!(table.rows.len(), 14, "{}", table.title);
+        for row in &table.rows {
+            assert!(!row[1].is_empty() || !row[5].is_empty(), "{}: {}", table.title, row[0]);
+        }
+    }
+    assert_eq!(report.bars.len(), 5);
+    for table in report.calls.iter().chain(&report.short) {
+        assert!(table.rows.iter().all(|row| row.len() == table.head.len()), "{}", table.title);
+        assert!(table.text().lines().count() > table.rows.len() && table.markdown().contains("|---|"));
+    }
+}
