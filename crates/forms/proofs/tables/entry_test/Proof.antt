@@ -1,5 +1,6 @@
 -- `forms::tables::entry_test` meets its contract. Assumes nothing.
-use mathlib.Core.Path.{_≡_, refl}
+use mathlib.Core.Path.{ap, _∙_, _≡_, refl}
+use Prim.Native.Nat.{ℕ}
 use borrow.Author.Needs.{needs}
 use Rattle.memory.specs.Entry.{accessible, rights, entry}
 use Rattle.memory.specs.Geometry.{pageOf}
@@ -20,8 +21,9 @@ entry-of-requires c κs = search needs
 returns : tie.Need-returns
 unfolding entryTest
 returns c =
+    let b = c .before .before .before .before .before .args .b in
     let w = c .before .before .before .before .before .args .w in
-    let e : c .before .entry-of .result ≡ entry (c .before .before .before .before .before .args .b) (pageOf (c .before .before .before .before .before .args .b) w) (accessible w) (rights w) = cc in
+    let e : c .before .entry-of .result ≡ entry b (pageOf b w) (accessible w) (rights w) = c .before .entry-of .ensures ∙ ap (λ (x : ℕ). entry b (pageOf b w) x (c .before .before .rights .result)) (c .before .before .before .accessible .ensures) ∙ ap (entry b (pageOf b w) (accessible w)) (c .before .before .rights .ensures) in
     rw (unequal e refl (c .if1 .taken))
 
 in-memory-requires : tie.Need-in-memory-requires
@@ -30,8 +32,9 @@ in-memory-requires c κs = search needs
 returns-2 : tie.Need-returns-2
 unfolding entryTest
 returns-2 c =
+    let b = c .before .before .before .before .before .before .args .b in
     let w = c .before .before .before .before .before .before .args .w in
-    let e : c .before .before .entry-of .result ≡ entry (c .before .before .before .before .before .before .args .b) (pageOf (c .before .before .before .before .before .before .args .b) w) (accessible w) (rights w) = cc in
+    let e : c .before .before .entry-of .result ≡ entry b (pageOf b w) (accessible w) (rights w) = c .before .before .entry-of .ensures ∙ ap (λ (x : ℕ). entry b (pageOf b w) x (c .before .before .before .rights .result)) (c .before .before .before .before .accessible .ensures) ∙ ap (entry b (pageOf b w) (accessible w)) (c .before .before .before .rights .ensures) in
     rw (equal e refl (c .before .if1 .left)) (c .in-memory .ensures)
 
 pub entry-test-spec : {M : Type 1} → statement M
