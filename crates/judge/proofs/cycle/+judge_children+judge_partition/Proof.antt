@@ -90,6 +90,46 @@ judge-partition-below t =
     (falls 2 judge-partition-kinds.ps _<_ μ-judge-partition t)
     judge-partition.Pre
 
+-- what the functions called by judge_children ask and give
+abbrev judge-children-claims : ℕ → judge-children-lts.Claims
+judge-children-claims t = (
+  directory-reads.Asked,
+  directory-reads.Learnt,
+  words-of-reads.Asked,
+  words-of-reads.Learnt,
+  shadow1-reads.Asked,
+  shadow1-reads.Learnt,
+  next-word-reads.Asked,
+  next-word-reads.Learnt,
+  table-of-reads.Asked,
+  table-of-reads.Learnt,
+  read-reads.Asked,
+  read-reads.Learnt,
+  least-reads.Asked,
+  least-reads.Learnt,
+  next-child-reads.Asked,
+  next-child-reads.Learnt,
+  page-of-reads.Asked,
+  page-of-reads.Learnt,
+  judge-partition-below t,
+  judge-partition.Post,
+)
+
+-- what the functions called by judge_partition ask and give
+abbrev judge-partition-claims : ℕ → judge-partition-lts.Claims
+judge-partition-claims t = (
+  forms-test-reads.Asked,
+  forms-test-reads.Learnt,
+  mark-kernel-reads.Asked,
+  mark-kernel-reads.Learnt,
+  tally-reads.Asked,
+  tally-reads.Learnt,
+  tables-test-reads.Asked,
+  tables-test-reads.Learnt,
+  judge-children-below t,
+  judge-children.Post,
+)
+
 abbrev judge-children-Inv-loop2 : judge-children-lts.InvT-loop2
 judge-children-Inv-loop2 b m seen₀ left dir sh1 i pt s1 n j₀ seen j = (length seen ≡ length seen₀) × (j ≤ n) × (j < n → childWords (getD pt j 0) (getD s1 j 0) ≡ true) × (run (marking (λ k. childWords (getD pt k 0) (getD s1 k 0)) (λ t k. W.child (children b m) (own b m) (partitionTest b m) left t (pageOf b (getD pt k 0)))) (some seen₀) (from (pageWords b) 0) ≡ run (marking (λ k. childWords (getD pt k 0) (getD s1 k 0)) (λ t k. W.child (children b m) (own b m) (partitionTest b m) left t (pageOf b (getD pt k 0)))) (some seen) (from (pageWords b - j) j))
 
@@ -102,29 +142,7 @@ judge-children-Inv-loop b m seen₀ left dir sh1 i₀ seen i = (length seen ≡ 
 abbrev judge-children-μ-loop : judge-children-lts.MeasureT-loop
 judge-children-μ-loop b m seen₀ left dir sh1 i₀ seen i = length dir - i
 
--- src/cycle.rt:49:30
-judge-children-directory-requires : (t : ℕ) → judge-children-lts.Need-directory-requires (
-  directory-reads.Asked,
-  directory-reads.Learnt,
-  words-of-reads.Asked,
-  words-of-reads.Learnt,
-  shadow1-reads.Asked,
-  shadow1-reads.Learnt,
-  next-word-reads.Asked,
-  next-word-reads.Learnt,
-  table-of-reads.Asked,
-  table-of-reads.Learnt,
-  read-reads.Asked,
-  read-reads.Learnt,
-  least-reads.Asked,
-  least-reads.Learnt,
-  next-child-reads.Asked,
-  next-child-reads.Learnt,
-  page-of-reads.Asked,
-  page-of-reads.Learnt,
-  judge-partition-below t,
-  judge-partition.Post,
-)
+judge-children-directory-requires : (t : ℕ) → judge-children-lts.Need-directory-requires (judge-children-claims t)
     (judge-children-at t)
     judge-children.Post
     judge-children-Inv-loop2
@@ -133,29 +151,7 @@ judge-children-directory-requires : (t : ℕ) → judge-children-lts.Need-direct
     judge-children-μ-loop
 judge-children-directory-requires t c κs = search needs
 
--- src/cycle.rt:49:9
-judge-children-words-of-requires : (t : ℕ) → judge-children-lts.Need-words-of-requires (
-  directory-reads.Asked,
-  directory-reads.Learnt,
-  words-of-reads.Asked,
-  words-of-reads.Learnt,
-  shadow1-reads.Asked,
-  shadow1-reads.Learnt,
-  next-word-reads.Asked,
-  next-word-reads.Learnt,
-  table-of-reads.Asked,
-  table-of-reads.Learnt,
-  read-reads.Asked,
-  read-reads.Learnt,
-  least-reads.Asked,
-  least-reads.Learnt,
-  next-child-reads.Asked,
-  next-child-reads.Learnt,
-  page-of-reads.Asked,
-  page-of-reads.Learnt,
-  judge-partition-below t,
-  judge-partition.Post,
-)
+judge-children-words-of-requires : (t : ℕ) → judge-children-lts.Need-words-of-requires (judge-children-claims t)
     (judge-children-at t)
     judge-children.Post
     judge-children-Inv-loop2
@@ -164,29 +160,7 @@ judge-children-words-of-requires : (t : ℕ) → judge-children-lts.Need-words-o
     judge-children-μ-loop
 judge-children-words-of-requires t c κs = search needs
 
--- src/cycle.rt:50:30
-judge-children-shadow1-requires : (t : ℕ) → judge-children-lts.Need-shadow1-requires (
-  directory-reads.Asked,
-  directory-reads.Learnt,
-  words-of-reads.Asked,
-  words-of-reads.Learnt,
-  shadow1-reads.Asked,
-  shadow1-reads.Learnt,
-  next-word-reads.Asked,
-  next-word-reads.Learnt,
-  table-of-reads.Asked,
-  table-of-reads.Learnt,
-  read-reads.Asked,
-  read-reads.Learnt,
-  least-reads.Asked,
-  least-reads.Learnt,
-  next-child-reads.Asked,
-  next-child-reads.Learnt,
-  page-of-reads.Asked,
-  page-of-reads.Learnt,
-  judge-partition-below t,
-  judge-partition.Post,
-)
+judge-children-shadow1-requires : (t : ℕ) → judge-children-lts.Need-shadow1-requires (judge-children-claims t)
     (judge-children-at t)
     judge-children.Post
     judge-children-Inv-loop2
@@ -195,29 +169,7 @@ judge-children-shadow1-requires : (t : ℕ) → judge-children-lts.Need-shadow1-
     judge-children-μ-loop
 judge-children-shadow1-requires t c κs = search needs
 
--- src/cycle.rt:50:9
-judge-children-words-of-requires-2 : (t : ℕ) → judge-children-lts.Need-words-of-requires-2 (
-  directory-reads.Asked,
-  directory-reads.Learnt,
-  words-of-reads.Asked,
-  words-of-reads.Learnt,
-  shadow1-reads.Asked,
-  shadow1-reads.Learnt,
-  next-word-reads.Asked,
-  next-word-reads.Learnt,
-  table-of-reads.Asked,
-  table-of-reads.Learnt,
-  read-reads.Asked,
-  read-reads.Learnt,
-  least-reads.Asked,
-  least-reads.Learnt,
-  next-child-reads.Asked,
-  next-child-reads.Learnt,
-  page-of-reads.Asked,
-  page-of-reads.Learnt,
-  judge-partition-below t,
-  judge-partition.Post,
-)
+judge-children-words-of-requires-2 : (t : ℕ) → judge-children-lts.Need-words-of-requires-2 (judge-children-claims t)
     (judge-children-at t)
     judge-children.Post
     judge-children-Inv-loop2
@@ -226,29 +178,7 @@ judge-children-words-of-requires-2 : (t : ℕ) → judge-children-lts.Need-words
     judge-children-μ-loop
 judge-children-words-of-requires-2 t c κs = search needs
 
--- src/cycle.rt:51:9
-judge-children-next-word-requires : (t : ℕ) → judge-children-lts.Need-next-word-requires (
-  directory-reads.Asked,
-  directory-reads.Learnt,
-  words-of-reads.Asked,
-  words-of-reads.Learnt,
-  shadow1-reads.Asked,
-  shadow1-reads.Learnt,
-  next-word-reads.Asked,
-  next-word-reads.Learnt,
-  table-of-reads.Asked,
-  table-of-reads.Learnt,
-  read-reads.Asked,
-  read-reads.Learnt,
-  least-reads.Asked,
-  least-reads.Learnt,
-  next-child-reads.Asked,
-  next-child-reads.Learnt,
-  page-of-reads.Asked,
-  page-of-reads.Learnt,
-  judge-partition-below t,
-  judge-partition.Post,
-)
+judge-children-next-word-requires : (t : ℕ) → judge-children-lts.Need-next-word-requires (judge-children-claims t)
     (judge-children-at t)
     judge-children.Post
     judge-children-Inv-loop2
@@ -257,29 +187,7 @@ judge-children-next-word-requires : (t : ℕ) → judge-children-lts.Need-next-w
     judge-children-μ-loop
 judge-children-next-word-requires t c κs = search needs
 
--- src/cycle.rt:52:5
-judge-children-loop-holds : (t : ℕ) → judge-children-lts.Need-loop-holds (
-  directory-reads.Asked,
-  directory-reads.Learnt,
-  words-of-reads.Asked,
-  words-of-reads.Learnt,
-  shadow1-reads.Asked,
-  shadow1-reads.Learnt,
-  next-word-reads.Asked,
-  next-word-reads.Learnt,
-  table-of-reads.Asked,
-  table-of-reads.Learnt,
-  read-reads.Asked,
-  read-reads.Learnt,
-  least-reads.Asked,
-  least-reads.Learnt,
-  next-child-reads.Asked,
-  next-child-reads.Learnt,
-  page-of-reads.Asked,
-  page-of-reads.Learnt,
-  judge-partition-below t,
-  judge-partition.Post,
-)
+judge-children-loop-holds : (t : ℕ) → judge-children-lts.Need-loop-holds (judge-children-claims t)
     (judge-children-at t)
     judge-children.Post
     judge-children-Inv-loop2
@@ -291,29 +199,7 @@ judge-children-loop-holds t c =
     let dir = c .before .before .before .words-of .result .now in
     (refl, next-high (used dir) (length dir) 0 (omega arith) (c .next-word .ensures), next-here (used dir) (length dir) 0 (omega arith) (c .next-word .ensures), λ d e e1. rows-first (s .b) (s .m .now) (childStep (s .b) (s .m .now) d (W.child (children (s .b) (s .m .now)) (own (s .b) (s .m .now)) (partitionTest (s .b) (s .m .now)) (s .left))) d dir e (some (s .seen .now)) (children-run (s .b) (s .m .now) d (W.child (children (s .b) (s .m .now)) (own (s .b) (s .m .now)) (partitionTest (s .b) (s .m .now)) (s .left)) (s .seen .now)) (c .next-word .ensures))
 
--- src/cycle.rt:53:33
-judge-children-mul-table-of : (t : ℕ) → judge-children-lts.Need-mul-table-of (
-  directory-reads.Asked,
-  directory-reads.Learnt,
-  words-of-reads.Asked,
-  words-of-reads.Learnt,
-  shadow1-reads.Asked,
-  shadow1-reads.Learnt,
-  next-word-reads.Asked,
-  next-word-reads.Learnt,
-  table-of-reads.Asked,
-  table-of-reads.Learnt,
-  read-reads.Asked,
-  read-reads.Learnt,
-  least-reads.Asked,
-  least-reads.Learnt,
-  next-child-reads.Asked,
-  next-child-reads.Learnt,
-  page-of-reads.Asked,
-  page-of-reads.Learnt,
-  judge-partition-below t,
-  judge-partition.Post,
-)
+judge-children-mul-table-of : (t : ℕ) → judge-children-lts.Need-mul-table-of (judge-children-claims t)
     (judge-children-at t)
     judge-children.Post
     judge-children-Inv-loop2
@@ -322,30 +208,8 @@ judge-children-mul-table-of : (t : ℕ) → judge-children-lts.Need-mul-table-of
     judge-children-μ-loop
 judge-children-mul-table-of t c = search needs
 
--- src/cycle.rt:53:33
 judge-children-shared-slice-read-table-of :
-    (t : ℕ) → judge-children-lts.Need-shared-slice-read-table-of (
-      directory-reads.Asked,
-      directory-reads.Learnt,
-      words-of-reads.Asked,
-      words-of-reads.Learnt,
-      shadow1-reads.Asked,
-      shadow1-reads.Learnt,
-      next-word-reads.Asked,
-      next-word-reads.Learnt,
-      table-of-reads.Asked,
-      table-of-reads.Learnt,
-      read-reads.Asked,
-      read-reads.Learnt,
-      least-reads.Asked,
-      least-reads.Learnt,
-      next-child-reads.Asked,
-      next-child-reads.Learnt,
-      page-of-reads.Asked,
-      page-of-reads.Learnt,
-      judge-partition-below t,
-      judge-partition.Post,
-    )
+    (t : ℕ) → judge-children-lts.Need-shared-slice-read-table-of (judge-children-claims t)
     (judge-children-at t)
     judge-children.Post
     judge-children-Inv-loop2
@@ -354,29 +218,7 @@ judge-children-shared-slice-read-table-of :
     judge-children-μ-loop
 judge-children-shared-slice-read-table-of t c = search needs
 
--- src/cycle.rt:53:13
-judge-children-table-of-requires : (t : ℕ) → judge-children-lts.Need-table-of-requires (
-  directory-reads.Asked,
-  directory-reads.Learnt,
-  words-of-reads.Asked,
-  words-of-reads.Learnt,
-  shadow1-reads.Asked,
-  shadow1-reads.Learnt,
-  next-word-reads.Asked,
-  next-word-reads.Learnt,
-  table-of-reads.Asked,
-  table-of-reads.Learnt,
-  read-reads.Asked,
-  read-reads.Learnt,
-  least-reads.Asked,
-  least-reads.Learnt,
-  next-child-reads.Asked,
-  next-child-reads.Learnt,
-  page-of-reads.Asked,
-  page-of-reads.Learnt,
-  judge-partition-below t,
-  judge-partition.Post,
-)
+judge-children-table-of-requires : (t : ℕ) → judge-children-lts.Need-table-of-requires (judge-children-claims t)
     (judge-children-at t)
     judge-children.Post
     judge-children-Inv-loop2
@@ -385,29 +227,7 @@ judge-children-table-of-requires : (t : ℕ) → judge-children-lts.Need-table-o
     judge-children-μ-loop
 judge-children-table-of-requires t c κs = search needs
 
--- src/cycle.rt:54:33
-judge-children-read-requires : (t : ℕ) → judge-children-lts.Need-read-requires (
-  directory-reads.Asked,
-  directory-reads.Learnt,
-  words-of-reads.Asked,
-  words-of-reads.Learnt,
-  shadow1-reads.Asked,
-  shadow1-reads.Learnt,
-  next-word-reads.Asked,
-  next-word-reads.Learnt,
-  table-of-reads.Asked,
-  table-of-reads.Learnt,
-  read-reads.Asked,
-  read-reads.Learnt,
-  least-reads.Asked,
-  least-reads.Learnt,
-  next-child-reads.Asked,
-  next-child-reads.Learnt,
-  page-of-reads.Asked,
-  page-of-reads.Learnt,
-  judge-partition-below t,
-  judge-partition.Post,
-)
+judge-children-read-requires : (t : ℕ) → judge-children-lts.Need-read-requires (judge-children-claims t)
     (judge-children-at t)
     judge-children.Post
     judge-children-Inv-loop2
@@ -416,29 +236,7 @@ judge-children-read-requires : (t : ℕ) → judge-children-lts.Need-read-requir
     judge-children-μ-loop
 judge-children-read-requires t c κs = search needs
 
--- src/cycle.rt:54:13
-judge-children-table-of-requires-2 : (t : ℕ) → judge-children-lts.Need-table-of-requires-2 (
-  directory-reads.Asked,
-  directory-reads.Learnt,
-  words-of-reads.Asked,
-  words-of-reads.Learnt,
-  shadow1-reads.Asked,
-  shadow1-reads.Learnt,
-  next-word-reads.Asked,
-  next-word-reads.Learnt,
-  table-of-reads.Asked,
-  table-of-reads.Learnt,
-  read-reads.Asked,
-  read-reads.Learnt,
-  least-reads.Asked,
-  least-reads.Learnt,
-  next-child-reads.Asked,
-  next-child-reads.Learnt,
-  page-of-reads.Asked,
-  page-of-reads.Learnt,
-  judge-partition-below t,
-  judge-partition.Post,
-)
+judge-children-table-of-requires-2 : (t : ℕ) → judge-children-lts.Need-table-of-requires-2 (judge-children-claims t)
     (judge-children-at t)
     judge-children.Post
     judge-children-Inv-loop2
@@ -447,29 +245,7 @@ judge-children-table-of-requires-2 : (t : ℕ) → judge-children-lts.Need-table
     judge-children-μ-loop
 judge-children-table-of-requires-2 t c κs = search needs
 
--- src/cycle.rt:55:13
-judge-children-least-requires : (t : ℕ) → judge-children-lts.Need-least-requires (
-  directory-reads.Asked,
-  directory-reads.Learnt,
-  words-of-reads.Asked,
-  words-of-reads.Learnt,
-  shadow1-reads.Asked,
-  shadow1-reads.Learnt,
-  next-word-reads.Asked,
-  next-word-reads.Learnt,
-  table-of-reads.Asked,
-  table-of-reads.Learnt,
-  read-reads.Asked,
-  read-reads.Learnt,
-  least-reads.Asked,
-  least-reads.Learnt,
-  next-child-reads.Asked,
-  next-child-reads.Learnt,
-  page-of-reads.Asked,
-  page-of-reads.Learnt,
-  judge-partition-below t,
-  judge-partition.Post,
-)
+judge-children-least-requires : (t : ℕ) → judge-children-lts.Need-least-requires (judge-children-claims t)
     (judge-children-at t)
     judge-children.Post
     judge-children-Inv-loop2
@@ -478,29 +254,7 @@ judge-children-least-requires : (t : ℕ) → judge-children-lts.Need-least-requ
     judge-children-μ-loop
 judge-children-least-requires t c κs = search needs
 
--- src/cycle.rt:56:13
-judge-children-next-child-requires : (t : ℕ) → judge-children-lts.Need-next-child-requires (
-  directory-reads.Asked,
-  directory-reads.Learnt,
-  words-of-reads.Asked,
-  words-of-reads.Learnt,
-  shadow1-reads.Asked,
-  shadow1-reads.Learnt,
-  next-word-reads.Asked,
-  next-word-reads.Learnt,
-  table-of-reads.Asked,
-  table-of-reads.Learnt,
-  read-reads.Asked,
-  read-reads.Learnt,
-  least-reads.Asked,
-  least-reads.Learnt,
-  next-child-reads.Asked,
-  next-child-reads.Learnt,
-  page-of-reads.Asked,
-  page-of-reads.Learnt,
-  judge-partition-below t,
-  judge-partition.Post,
-)
+judge-children-next-child-requires : (t : ℕ) → judge-children-lts.Need-next-child-requires (judge-children-claims t)
     (judge-children-at t)
     judge-children.Post
     judge-children-Inv-loop2
@@ -509,29 +263,7 @@ judge-children-next-child-requires : (t : ℕ) → judge-children-lts.Need-next-
     judge-children-μ-loop
 judge-children-next-child-requires t c κs = search needs
 
--- src/cycle.rt:57:9
-judge-children-loop2-holds : (t : ℕ) → judge-children-lts.Need-loop2-holds (
-  directory-reads.Asked,
-  directory-reads.Learnt,
-  words-of-reads.Asked,
-  words-of-reads.Learnt,
-  shadow1-reads.Asked,
-  shadow1-reads.Learnt,
-  next-word-reads.Asked,
-  next-word-reads.Learnt,
-  table-of-reads.Asked,
-  table-of-reads.Learnt,
-  read-reads.Asked,
-  read-reads.Learnt,
-  least-reads.Asked,
-  least-reads.Learnt,
-  next-child-reads.Asked,
-  next-child-reads.Learnt,
-  page-of-reads.Asked,
-  page-of-reads.Learnt,
-  judge-partition-below t,
-  judge-partition.Post,
-)
+judge-children-loop2-holds : (t : ℕ) → judge-children-lts.Need-loop2-holds (judge-children-claims t)
     (judge-children-at t)
     judge-children.Post
     judge-children-Inv-loop2
@@ -545,29 +277,7 @@ judge-children-loop2-holds t c =
     let n = c .before .least .result in
     (refl, next-high (λ k. childWords (getD pt k 0) (getD s1 k 0)) n 0 (omega arith) (c .next-child .ensures), next-here (λ k. childWords (getD pt k 0) (getD s1 k 0)) n 0 (omega arith) (c .next-child .ensures), picked-first (λ k. childWords (getD pt k 0) (getD s1 k 0)) (λ t k. W.child (children (s .b) (s .m .now)) (own (s .b) (s .m .now)) (partitionTest (s .b) (s .m .now)) (s .left) t (pageOf (s .b) (getD pt k 0))) (pageWords (s .b)) n (child-short (s .b) (s .m .now) s1 (getD (c .before .before .before .before .before .before .before .before .before .before .before .words-of .result .now) (c .before .before .before .before .before .before .before .loop .i) 0) (c .before .before .before .before .table-of .ensures) (c .before .least .ensures)) (child-rest pt s1 (c .before .least .ensures)) (some (c .before .before .before .before .before .before .before .loop .seen)) (c .next-child .ensures))
 
--- src/cycle.rt:59:17
-judge-children-same-length : (t : ℕ) → judge-children-lts.Need-same-length (
-  directory-reads.Asked,
-  directory-reads.Learnt,
-  words-of-reads.Asked,
-  words-of-reads.Learnt,
-  shadow1-reads.Asked,
-  shadow1-reads.Learnt,
-  next-word-reads.Asked,
-  next-word-reads.Learnt,
-  table-of-reads.Asked,
-  table-of-reads.Learnt,
-  read-reads.Asked,
-  read-reads.Learnt,
-  least-reads.Asked,
-  least-reads.Learnt,
-  next-child-reads.Asked,
-  next-child-reads.Learnt,
-  page-of-reads.Asked,
-  page-of-reads.Learnt,
-  judge-partition-below t,
-  judge-partition.Post,
-)
+judge-children-same-length : (t : ℕ) → judge-children-lts.Need-same-length (judge-children-claims t)
     (judge-children-at t)
     judge-children.Post
     judge-children-Inv-loop2
@@ -576,29 +286,7 @@ judge-children-same-length : (t : ℕ) → judge-children-lts.Need-same-length (
     judge-children-μ-loop
 judge-children-same-length t c = search needs
 
--- src/cycle.rt:59:17
-judge-children-returns : (t : ℕ) → judge-children-lts.Need-returns (
-  directory-reads.Asked,
-  directory-reads.Learnt,
-  words-of-reads.Asked,
-  words-of-reads.Learnt,
-  shadow1-reads.Asked,
-  shadow1-reads.Learnt,
-  next-word-reads.Asked,
-  next-word-reads.Learnt,
-  table-of-reads.Asked,
-  table-of-reads.Learnt,
-  read-reads.Asked,
-  read-reads.Learnt,
-  least-reads.Asked,
-  least-reads.Learnt,
-  next-child-reads.Asked,
-  next-child-reads.Learnt,
-  page-of-reads.Asked,
-  page-of-reads.Learnt,
-  judge-partition-below t,
-  judge-partition.Post,
-)
+judge-children-returns : (t : ℕ) → judge-children-lts.Need-returns (judge-children-claims t)
     (judge-children-at t)
     judge-children.Post
     judge-children-Inv-loop2
@@ -614,29 +302,7 @@ judge-children-returns t c =
     let e1 = c .before .before .before .before .before .before .before .before .before .before .before .before .words-of2 .ensures ∙ ap (page (s .b) (s .m .now)) (c .before .before .before .before .before .before .before .before .before .before .before .before .before .shadow1 .ensures) in
     rows-stop (s .b) (s .m .now) (λ v. childWords (mapping (s .b) (s .m .now) (s .d .0) v) (lent (s .b) (s .m .now) (s .d .0) v)) (λ t v. (W.child (children (s .b) (s .m .now)) (own (s .b) (s .m .now)) (partitionTest (s .b) (s .m .now)) (s .left)) t (pageOf (s .b) (mapping (s .b) (s .m .now) (s .d .0) v))) (s .d .0) (c .before .before .before .before .before .before .before .before .before .before .before .before .before .before .words-of .result .now) e (c .before .before .before .before .before .before .before .before .before .before .loop .i) (some (c .before .before .before .before .before .before .before .before .before .before .loop .seen)) (c .before .before .before .before .before .before .before .before .before .loop-test .taken) (children-row (s .b) (s .m .now) (s .d .0) (c .before .before .before .before .before .before .before .before .before .before .loop .i) e (c .before .before .before .before .before .before .before .before .before .loop-test .taken) (c .before .before .before .before .before .before .before .before .before .before .loop .inv .2 (c .before .before .before .before .before .before .before .before .before .loop-test .taken)) (c .before .before .before .before .before .before .before .table-of .ensures) e1 (c .before .before .before .before .before .before .read .ensures) (c .before .before .before .before .before .table-of2 .ensures) (W.child (children (s .b) (s .m .now)) (own (s .b) (s .m .now)) (partitionTest (s .b) (s .m .now)) (s .left)) (some (c .before .before .before .before .before .before .before .before .before .before .loop .seen)) ∙ c .before .before .loop2 .inv .3 ∙ picked-fails (λ k. childWords (getD pt k 0) (getD s1 k 0)) (λ t k. W.child (children (s .b) (s .m .now)) (own (s .b) (s .m .now)) (partitionTest (s .b) (s .m .now)) (s .left) t (pageOf (s .b) (getD pt k 0))) (pageWords (s .b)) n (child-short (s .b) (s .m .now) s1 (getD (c .before .before .before .before .before .before .before .before .before .before .before .before .before .before .words-of .result .now) (c .before .before .before .before .before .before .before .before .before .before .loop .i) 0) (c .before .before .before .before .before .before .before .table-of .ensures) (c .before .before .before .before .least .ensures)) (child-rest pt s1 (c .before .before .before .before .least .ensures)) (some (c .before .before .loop2 .seen)) (c .before .loop2-test .taken) (picked-is (λ k. childWords (getD pt k 0) (getD s1 k 0)) (λ t k. W.child (children (s .b) (s .m .now)) (own (s .b) (s .m .now)) (partitionTest (s .b) (s .m .now)) (s .left) t (pageOf (s .b) (getD pt k 0))) (c .before .before .loop2 .seen) (c .before .before .loop2 .j) (c .before .before .loop2 .inv .2 (c .before .loop2-test .taken)) ∙ child-none _ _ _ _ _ _ (c .if1 .taken))) (c .before .before .before .before .before .before .before .before .before .before .loop .inv .3 (s .d .0) e e1)
 
--- src/cycle.rt:61:56
-judge-children-mul-page-of : (t : ℕ) → judge-children-lts.Need-mul-page-of (
-  directory-reads.Asked,
-  directory-reads.Learnt,
-  words-of-reads.Asked,
-  words-of-reads.Learnt,
-  shadow1-reads.Asked,
-  shadow1-reads.Learnt,
-  next-word-reads.Asked,
-  next-word-reads.Learnt,
-  table-of-reads.Asked,
-  table-of-reads.Learnt,
-  read-reads.Asked,
-  read-reads.Learnt,
-  least-reads.Asked,
-  least-reads.Learnt,
-  next-child-reads.Asked,
-  next-child-reads.Learnt,
-  page-of-reads.Asked,
-  page-of-reads.Learnt,
-  judge-partition-below t,
-  judge-partition.Post,
-)
+judge-children-mul-page-of : (t : ℕ) → judge-children-lts.Need-mul-page-of (judge-children-claims t)
     (judge-children-at t)
     judge-children.Post
     judge-children-Inv-loop2
@@ -645,30 +311,8 @@ judge-children-mul-page-of : (t : ℕ) → judge-children-lts.Need-mul-page-of (
     judge-children-μ-loop
 judge-children-mul-page-of t c = search needs
 
--- src/cycle.rt:61:56
 judge-children-shared-slice-read-page-of :
-    (t : ℕ) → judge-children-lts.Need-shared-slice-read-page-of (
-      directory-reads.Asked,
-      directory-reads.Learnt,
-      words-of-reads.Asked,
-      words-of-reads.Learnt,
-      shadow1-reads.Asked,
-      shadow1-reads.Learnt,
-      next-word-reads.Asked,
-      next-word-reads.Learnt,
-      table-of-reads.Asked,
-      table-of-reads.Learnt,
-      read-reads.Asked,
-      read-reads.Learnt,
-      least-reads.Asked,
-      least-reads.Learnt,
-      next-child-reads.Asked,
-      next-child-reads.Learnt,
-      page-of-reads.Asked,
-      page-of-reads.Learnt,
-      judge-partition-below t,
-      judge-partition.Post,
-    )
+    (t : ℕ) → judge-children-lts.Need-shared-slice-read-page-of (judge-children-claims t)
     (judge-children-at t)
     judge-children.Post
     judge-children-Inv-loop2
@@ -677,29 +321,7 @@ judge-children-shared-slice-read-page-of :
     judge-children-μ-loop
 judge-children-shared-slice-read-page-of t c = search needs
 
--- src/cycle.rt:61:45
-judge-children-page-of-requires : (t : ℕ) → judge-children-lts.Need-page-of-requires (
-  directory-reads.Asked,
-  directory-reads.Learnt,
-  words-of-reads.Asked,
-  words-of-reads.Learnt,
-  shadow1-reads.Asked,
-  shadow1-reads.Learnt,
-  next-word-reads.Asked,
-  next-word-reads.Learnt,
-  table-of-reads.Asked,
-  table-of-reads.Learnt,
-  read-reads.Asked,
-  read-reads.Learnt,
-  least-reads.Asked,
-  least-reads.Learnt,
-  next-child-reads.Asked,
-  next-child-reads.Learnt,
-  page-of-reads.Asked,
-  page-of-reads.Learnt,
-  judge-partition-below t,
-  judge-partition.Post,
-)
+judge-children-page-of-requires : (t : ℕ) → judge-children-lts.Need-page-of-requires (judge-children-claims t)
     (judge-children-at t)
     judge-children.Post
     judge-children-Inv-loop2
@@ -708,29 +330,7 @@ judge-children-page-of-requires : (t : ℕ) → judge-children-lts.Need-page-of-
     judge-children-μ-loop
 judge-children-page-of-requires t c κs = c .before .before .before .before .before .before .before .before .before .before .before .before .before .before .before .before .before .before .before .before .pre .1
 
--- src/cycle.rt:61:64
-judge-children-sub-judge-partition : (t : ℕ) → judge-children-lts.Need-sub-judge-partition (
-  directory-reads.Asked,
-  directory-reads.Learnt,
-  words-of-reads.Asked,
-  words-of-reads.Learnt,
-  shadow1-reads.Asked,
-  shadow1-reads.Learnt,
-  next-word-reads.Asked,
-  next-word-reads.Learnt,
-  table-of-reads.Asked,
-  table-of-reads.Learnt,
-  read-reads.Asked,
-  read-reads.Learnt,
-  least-reads.Asked,
-  least-reads.Learnt,
-  next-child-reads.Asked,
-  next-child-reads.Learnt,
-  page-of-reads.Asked,
-  page-of-reads.Learnt,
-  judge-partition-below t,
-  judge-partition.Post,
-)
+judge-children-sub-judge-partition : (t : ℕ) → judge-children-lts.Need-sub-judge-partition (judge-children-claims t)
     (judge-children-at t)
     judge-children.Post
     judge-children-Inv-loop2
@@ -739,30 +339,8 @@ judge-children-sub-judge-partition : (t : ℕ) → judge-children-lts.Need-sub-j
     judge-children-μ-loop
 judge-children-sub-judge-partition t c = search needs
 
--- src/cycle.rt:61:17
 judge-children-judge-partition-requires :
-    (t : ℕ) → judge-children-lts.Need-judge-partition-requires (
-      directory-reads.Asked,
-      directory-reads.Learnt,
-      words-of-reads.Asked,
-      words-of-reads.Learnt,
-      shadow1-reads.Asked,
-      shadow1-reads.Learnt,
-      next-word-reads.Asked,
-      next-word-reads.Learnt,
-      table-of-reads.Asked,
-      table-of-reads.Learnt,
-      read-reads.Asked,
-      read-reads.Learnt,
-      least-reads.Asked,
-      least-reads.Learnt,
-      next-child-reads.Asked,
-      next-child-reads.Learnt,
-      page-of-reads.Asked,
-      page-of-reads.Learnt,
-      judge-partition-below t,
-      judge-partition.Post,
-    )
+    (t : ℕ) → judge-children-lts.Need-judge-partition-requires (judge-children-claims t)
     (judge-children-at t)
     judge-children.Post
     judge-children-Inv-loop2
@@ -771,29 +349,7 @@ judge-children-judge-partition-requires :
     judge-children-μ-loop
 judge-children-judge-partition-requires t c κs = (omega (arith, c .before .before .before .before .before .before .before .before .before .before .before .before .before .before .before .before .before .before .before .before .before .pre .0, c .before .before .before .if1 .left), c .before .before .before .before .before .before .before .before .before .before .before .before .before .before .before .before .before .before .before .before .before .pre .1)
 
--- src/cycle.rt:62:17
-judge-children-same-length-2 : (t : ℕ) → judge-children-lts.Need-same-length-2 (
-  directory-reads.Asked,
-  directory-reads.Learnt,
-  words-of-reads.Asked,
-  words-of-reads.Learnt,
-  shadow1-reads.Asked,
-  shadow1-reads.Learnt,
-  next-word-reads.Asked,
-  next-word-reads.Learnt,
-  table-of-reads.Asked,
-  table-of-reads.Learnt,
-  read-reads.Asked,
-  read-reads.Learnt,
-  least-reads.Asked,
-  least-reads.Learnt,
-  next-child-reads.Asked,
-  next-child-reads.Learnt,
-  page-of-reads.Asked,
-  page-of-reads.Learnt,
-  judge-partition-below t,
-  judge-partition.Post,
-)
+judge-children-same-length-2 : (t : ℕ) → judge-children-lts.Need-same-length-2 (judge-children-claims t)
     (judge-children-at t)
     judge-children.Post
     judge-children-Inv-loop2
@@ -802,29 +358,7 @@ judge-children-same-length-2 : (t : ℕ) → judge-children-lts.Need-same-length
     judge-children-μ-loop
 judge-children-same-length-2 t c = search needs
 
--- src/cycle.rt:62:17
-judge-children-returns-2 : (t : ℕ) → judge-children-lts.Need-returns-2 (
-  directory-reads.Asked,
-  directory-reads.Learnt,
-  words-of-reads.Asked,
-  words-of-reads.Learnt,
-  shadow1-reads.Asked,
-  shadow1-reads.Learnt,
-  next-word-reads.Asked,
-  next-word-reads.Learnt,
-  table-of-reads.Asked,
-  table-of-reads.Learnt,
-  read-reads.Asked,
-  read-reads.Learnt,
-  least-reads.Asked,
-  least-reads.Learnt,
-  next-child-reads.Asked,
-  next-child-reads.Learnt,
-  page-of-reads.Asked,
-  page-of-reads.Learnt,
-  judge-partition-below t,
-  judge-partition.Post,
-)
+judge-children-returns-2 : (t : ℕ) → judge-children-lts.Need-returns-2 (judge-children-claims t)
     (judge-children-at t)
     judge-children.Post
     judge-children-Inv-loop2
@@ -840,29 +374,7 @@ judge-children-returns-2 t c =
     let e1 = c .before .before .before .before .before .before .before .before .before .before .before .before .before .before .before .before .before .before .before .words-of2 .ensures ∙ ap (page (s .b) (s .m .now)) (c .before .before .before .before .before .before .before .before .before .before .before .before .before .before .before .before .before .before .before .before .shadow1 .ensures) in
     rows-stop (s .b) (s .m .now) (λ v. childWords (mapping (s .b) (s .m .now) (s .d .0) v) (lent (s .b) (s .m .now) (s .d .0) v)) (λ t v. (W.child (children (s .b) (s .m .now)) (own (s .b) (s .m .now)) (partitionTest (s .b) (s .m .now)) (s .left)) t (pageOf (s .b) (mapping (s .b) (s .m .now) (s .d .0) v))) (s .d .0) (c .before .before .before .before .before .before .before .before .before .before .before .before .before .before .before .before .before .before .before .before .before .words-of .result .now) e (c .before .before .before .before .before .before .before .before .before .before .before .before .before .before .before .before .before .loop .i) (some (c .before .before .before .before .before .before .before .before .before .before .before .before .before .before .before .before .before .loop .seen)) (c .before .before .before .before .before .before .before .before .before .before .before .before .before .before .before .before .loop-test .taken) (children-row (s .b) (s .m .now) (s .d .0) (c .before .before .before .before .before .before .before .before .before .before .before .before .before .before .before .before .before .loop .i) e (c .before .before .before .before .before .before .before .before .before .before .before .before .before .before .before .before .loop-test .taken) (c .before .before .before .before .before .before .before .before .before .before .before .before .before .before .before .before .before .loop .inv .2 (c .before .before .before .before .before .before .before .before .before .before .before .before .before .before .before .before .loop-test .taken)) (c .before .before .before .before .before .before .before .before .before .before .before .before .before .before .table-of .ensures) e1 (c .before .before .before .before .before .before .before .before .before .before .before .before .before .read .ensures) (c .before .before .before .before .before .before .before .before .before .before .before .before .table-of2 .ensures) (W.child (children (s .b) (s .m .now)) (own (s .b) (s .m .now)) (partitionTest (s .b) (s .m .now)) (s .left)) (some (c .before .before .before .before .before .before .before .before .before .before .before .before .before .before .before .before .before .loop .seen)) ∙ c .before .before .before .before .before .before .before .before .before .loop2 .inv .3 ∙ picked-fails (λ k. childWords (getD pt k 0) (getD s1 k 0)) (λ t k. W.child (children (s .b) (s .m .now)) (own (s .b) (s .m .now)) (partitionTest (s .b) (s .m .now)) (s .left) t (pageOf (s .b) (getD pt k 0))) (pageWords (s .b)) n (child-short (s .b) (s .m .now) s1 (getD (c .before .before .before .before .before .before .before .before .before .before .before .before .before .before .before .before .before .before .before .before .before .words-of .result .now) (c .before .before .before .before .before .before .before .before .before .before .before .before .before .before .before .before .before .loop .i) 0) (c .before .before .before .before .before .before .before .before .before .before .before .before .before .before .table-of .ensures) (c .before .before .before .before .before .before .before .before .before .before .before .least .ensures)) (child-rest pt s1 (c .before .before .before .before .before .before .before .before .before .before .before .least .ensures)) (some (c .before .before .before .before .before .before .before .before .before .loop2 .seen)) (c .before .before .before .before .before .before .before .before .loop2-test .taken) (picked-is (λ k. childWords (getD pt k 0) (getD s1 k 0)) (λ t k. W.child (children (s .b) (s .m .now)) (own (s .b) (s .m .now)) (partitionTest (s .b) (s .m .now)) (s .left) t (pageOf (s .b) (getD pt k 0))) (c .before .before .before .before .before .before .before .before .before .loop2 .seen) (c .before .before .before .before .before .before .before .before .before .loop2 .j) (c .before .before .before .before .before .before .before .before .before .loop2 .inv .2 (c .before .before .before .before .before .before .before .before .loop2-test .taken)) ∙ ap (λ (x : ℕ). (W.child (children (s .b) (s .m .now)) (own (s .b) (s .m .now)) (partitionTest (s .b) (s .m .now)) (s .left)) (c .before .before .before .before .before .before .before .before .before .loop2 .seen) x) (sym (c .before .before .before .before .page-of .ensures)) ∙ child-next _ _ _ _ _ _ (pos-of-ne-zero (c .before .before .before .before .before .before .before .if1 .left)) ∙ failed _ (c .before .before .before .judge-partition .result) (c .before .before .before .judge-partition .last .1 .1 .0) (c .before .before .before .judge-partition .ensures) (not-true _ (c .if2 .taken)))) (c .before .before .before .before .before .before .before .before .before .before .before .before .before .before .before .before .before .loop .inv .3 (s .d .0) e e1)
 
--- src/cycle.rt:64:39
-judge-children-add-next-child : (t : ℕ) → judge-children-lts.Need-add-next-child (
-  directory-reads.Asked,
-  directory-reads.Learnt,
-  words-of-reads.Asked,
-  words-of-reads.Learnt,
-  shadow1-reads.Asked,
-  shadow1-reads.Learnt,
-  next-word-reads.Asked,
-  next-word-reads.Learnt,
-  table-of-reads.Asked,
-  table-of-reads.Learnt,
-  read-reads.Asked,
-  read-reads.Learnt,
-  least-reads.Asked,
-  least-reads.Learnt,
-  next-child-reads.Asked,
-  next-child-reads.Learnt,
-  page-of-reads.Asked,
-  page-of-reads.Learnt,
-  judge-partition-below t,
-  judge-partition.Post,
-)
+judge-children-add-next-child : (t : ℕ) → judge-children-lts.Need-add-next-child (judge-children-claims t)
     (judge-children-at t)
     judge-children.Post
     judge-children-Inv-loop2
@@ -871,29 +383,7 @@ judge-children-add-next-child : (t : ℕ) → judge-children-lts.Need-add-next-c
     judge-children-μ-loop
 judge-children-add-next-child t c = search needs
 
--- src/cycle.rt:64:13
-judge-children-next-child-requires-2 : (t : ℕ) → judge-children-lts.Need-next-child-requires-2 (
-  directory-reads.Asked,
-  directory-reads.Learnt,
-  words-of-reads.Asked,
-  words-of-reads.Learnt,
-  shadow1-reads.Asked,
-  shadow1-reads.Learnt,
-  next-word-reads.Asked,
-  next-word-reads.Learnt,
-  table-of-reads.Asked,
-  table-of-reads.Learnt,
-  read-reads.Asked,
-  read-reads.Learnt,
-  least-reads.Asked,
-  least-reads.Learnt,
-  next-child-reads.Asked,
-  next-child-reads.Learnt,
-  page-of-reads.Asked,
-  page-of-reads.Learnt,
-  judge-partition-below t,
-  judge-partition.Post,
-)
+judge-children-next-child-requires-2 : (t : ℕ) → judge-children-lts.Need-next-child-requires-2 (judge-children-claims t)
     (judge-children-at t)
     judge-children.Post
     judge-children-Inv-loop2
@@ -902,29 +392,7 @@ judge-children-next-child-requires-2 : (t : ℕ) → judge-children-lts.Need-nex
     judge-children-μ-loop
 judge-children-next-child-requires-2 t c κs = search needs
 
--- src/cycle.rt:57:9
-judge-children-loop2-less : (t : ℕ) → judge-children-lts.Need-loop2-less (
-  directory-reads.Asked,
-  directory-reads.Learnt,
-  words-of-reads.Asked,
-  words-of-reads.Learnt,
-  shadow1-reads.Asked,
-  shadow1-reads.Learnt,
-  next-word-reads.Asked,
-  next-word-reads.Learnt,
-  table-of-reads.Asked,
-  table-of-reads.Learnt,
-  read-reads.Asked,
-  read-reads.Learnt,
-  least-reads.Asked,
-  least-reads.Learnt,
-  next-child-reads.Asked,
-  next-child-reads.Learnt,
-  page-of-reads.Asked,
-  page-of-reads.Learnt,
-  judge-partition-below t,
-  judge-partition.Post,
-)
+judge-children-loop2-less : (t : ℕ) → judge-children-lts.Need-loop2-less (judge-children-claims t)
     (judge-children-at t)
     judge-children.Post
     judge-children-Inv-loop2
@@ -938,29 +406,7 @@ judge-children-loop2-less t c =
     let n = c .before .before .before .before .before .before .before .before .before .before .before .before .least .result in
     omega (arith, c .before .before .before .before .before .before .before .before .before .loop2-test .taken, next-low (λ k. childWords (getD pt k 0) (getD s1 k 0)) n (c .before .before .before .before .before .before .before .before .before .before .loop2 .j + 1) (c .next-child2 .ensures))
 
--- src/cycle.rt:57:9
-judge-children-loop2-again : (t : ℕ) → judge-children-lts.Need-loop2-again (
-  directory-reads.Asked,
-  directory-reads.Learnt,
-  words-of-reads.Asked,
-  words-of-reads.Learnt,
-  shadow1-reads.Asked,
-  shadow1-reads.Learnt,
-  next-word-reads.Asked,
-  next-word-reads.Learnt,
-  table-of-reads.Asked,
-  table-of-reads.Learnt,
-  read-reads.Asked,
-  read-reads.Learnt,
-  least-reads.Asked,
-  least-reads.Learnt,
-  next-child-reads.Asked,
-  next-child-reads.Learnt,
-  page-of-reads.Asked,
-  page-of-reads.Learnt,
-  judge-partition-below t,
-  judge-partition.Post,
-)
+judge-children-loop2-again : (t : ℕ) → judge-children-lts.Need-loop2-again (judge-children-claims t)
     (judge-children-at t)
     judge-children.Post
     judge-children-Inv-loop2
@@ -974,29 +420,7 @@ judge-children-loop2-again t c =
     let n = c .before .before .before .before .before .before .before .before .before .before .before .before .least .result in
     (c .before .before .before .before .judge-partition .kept .1 .1 .0 ∙ c .before .before .before .before .before .before .before .before .before .before .loop2 .inv .0, next-high (λ k. childWords (getD pt k 0) (getD s1 k 0)) n (c .before .before .before .before .before .before .before .before .before .before .loop2 .j + 1) (omega (arith, c .before .before .before .before .before .before .before .before .before .loop2-test .taken)) (c .next-child2 .ensures), next-here (λ k. childWords (getD pt k 0) (getD s1 k 0)) n (c .before .before .before .before .before .before .before .before .before .before .loop2 .j + 1) (omega (arith, c .before .before .before .before .before .before .before .before .before .loop2-test .taken)) (c .next-child2 .ensures), c .before .before .before .before .before .before .before .before .before .before .loop2 .inv .3 ∙ picked-next (λ k. childWords (getD pt k 0) (getD s1 k 0)) (λ t k. W.child (children (s .b) (s .m .now)) (own (s .b) (s .m .now)) (partitionTest (s .b) (s .m .now)) (s .left) t (pageOf (s .b) (getD pt k 0))) (pageWords (s .b)) n (child-short (s .b) (s .m .now) s1 (getD (c .before .before .before .before .before .before .before .before .before .before .before .before .before .before .before .before .before .before .before .before .before .before .words-of .result .now) (c .before .before .before .before .before .before .before .before .before .before .before .before .before .before .before .before .before .before .loop .i) 0) (c .before .before .before .before .before .before .before .before .before .before .before .before .before .before .before .table-of .ensures) (c .before .before .before .before .before .before .before .before .before .before .before .before .least .ensures)) (child-rest pt s1 (c .before .before .before .before .before .before .before .before .before .before .before .before .least .ensures)) (some (c .before .before .before .before .before .before .before .before .before .before .loop2 .seen)) (some (c .before .before .before .before .judge-partition .last .1 .1 .0)) (c .before .before .before .before .before .before .before .before .before .loop2-test .taken) (sym (picked-is (λ k. childWords (getD pt k 0) (getD s1 k 0)) (λ t k. W.child (children (s .b) (s .m .now)) (own (s .b) (s .m .now)) (partitionTest (s .b) (s .m .now)) (s .left) t (pageOf (s .b) (getD pt k 0))) (c .before .before .before .before .before .before .before .before .before .before .loop2 .seen) (c .before .before .before .before .before .before .before .before .before .before .loop2 .j) (c .before .before .before .before .before .before .before .before .before .before .loop2 .inv .2 (c .before .before .before .before .before .before .before .before .before .loop2-test .taken)) ∙ ap (λ (x : ℕ). (W.child (children (s .b) (s .m .now)) (own (s .b) (s .m .now)) (partitionTest (s .b) (s .m .now)) (s .left)) (c .before .before .before .before .before .before .before .before .before .before .loop2 .seen) x) (sym (c .before .before .before .before .before .page-of .ensures)) ∙ child-next _ _ _ _ _ _ (pos-of-ne-zero (c .before .before .before .before .before .before .before .before .if1 .left)) ∙ passed _ (c .before .before .before .before .judge-partition .result) _ (c .before .before .before .before .judge-partition .ensures) (not-false _ (c .before .if2 .left)))) (c .next-child2 .ensures))
 
--- src/cycle.rt:66:28
-judge-children-add-next-word : (t : ℕ) → judge-children-lts.Need-add-next-word (
-  directory-reads.Asked,
-  directory-reads.Learnt,
-  words-of-reads.Asked,
-  words-of-reads.Learnt,
-  shadow1-reads.Asked,
-  shadow1-reads.Learnt,
-  next-word-reads.Asked,
-  next-word-reads.Learnt,
-  table-of-reads.Asked,
-  table-of-reads.Learnt,
-  read-reads.Asked,
-  read-reads.Learnt,
-  least-reads.Asked,
-  least-reads.Learnt,
-  next-child-reads.Asked,
-  next-child-reads.Learnt,
-  page-of-reads.Asked,
-  page-of-reads.Learnt,
-  judge-partition-below t,
-  judge-partition.Post,
-)
+judge-children-add-next-word : (t : ℕ) → judge-children-lts.Need-add-next-word (judge-children-claims t)
     (judge-children-at t)
     judge-children.Post
     judge-children-Inv-loop2
@@ -1005,29 +429,7 @@ judge-children-add-next-word : (t : ℕ) → judge-children-lts.Need-add-next-wo
     judge-children-μ-loop
 judge-children-add-next-word t c = search needs
 
--- src/cycle.rt:66:9
-judge-children-next-word-requires-2 : (t : ℕ) → judge-children-lts.Need-next-word-requires-2 (
-  directory-reads.Asked,
-  directory-reads.Learnt,
-  words-of-reads.Asked,
-  words-of-reads.Learnt,
-  shadow1-reads.Asked,
-  shadow1-reads.Learnt,
-  next-word-reads.Asked,
-  next-word-reads.Learnt,
-  table-of-reads.Asked,
-  table-of-reads.Learnt,
-  read-reads.Asked,
-  read-reads.Learnt,
-  least-reads.Asked,
-  least-reads.Learnt,
-  next-child-reads.Asked,
-  next-child-reads.Learnt,
-  page-of-reads.Asked,
-  page-of-reads.Learnt,
-  judge-partition-below t,
-  judge-partition.Post,
-)
+judge-children-next-word-requires-2 : (t : ℕ) → judge-children-lts.Need-next-word-requires-2 (judge-children-claims t)
     (judge-children-at t)
     judge-children.Post
     judge-children-Inv-loop2
@@ -1036,29 +438,7 @@ judge-children-next-word-requires-2 : (t : ℕ) → judge-children-lts.Need-next
     judge-children-μ-loop
 judge-children-next-word-requires-2 t c κs = search needs
 
--- src/cycle.rt:52:5
-judge-children-loop-less : (t : ℕ) → judge-children-lts.Need-loop-less (
-  directory-reads.Asked,
-  directory-reads.Learnt,
-  words-of-reads.Asked,
-  words-of-reads.Learnt,
-  shadow1-reads.Asked,
-  shadow1-reads.Learnt,
-  next-word-reads.Asked,
-  next-word-reads.Learnt,
-  table-of-reads.Asked,
-  table-of-reads.Learnt,
-  read-reads.Asked,
-  read-reads.Learnt,
-  least-reads.Asked,
-  least-reads.Learnt,
-  next-child-reads.Asked,
-  next-child-reads.Learnt,
-  page-of-reads.Asked,
-  page-of-reads.Learnt,
-  judge-partition-below t,
-  judge-partition.Post,
-)
+judge-children-loop-less : (t : ℕ) → judge-children-lts.Need-loop-less (judge-children-claims t)
     (judge-children-at t)
     judge-children.Post
     judge-children-Inv-loop2
@@ -1067,29 +447,7 @@ judge-children-loop-less : (t : ℕ) → judge-children-lts.Need-loop-less (
     judge-children-μ-loop
 judge-children-loop-less t c = omega (arith, c .before .before .before .before .before .before .before .before .before .loop-test .taken, next-low (used (c .before .before .before .before .before .before .before .before .before .before .before .before .before .before .words-of .result .now)) (length (c .before .before .before .before .before .before .before .before .before .before .before .before .before .before .words-of .result .now)) (c .before .before .before .before .before .before .before .before .before .before .loop .i + 1) (c .next-word2 .ensures))
 
--- src/cycle.rt:52:5
-judge-children-loop-again : (t : ℕ) → judge-children-lts.Need-loop-again (
-  directory-reads.Asked,
-  directory-reads.Learnt,
-  words-of-reads.Asked,
-  words-of-reads.Learnt,
-  shadow1-reads.Asked,
-  shadow1-reads.Learnt,
-  next-word-reads.Asked,
-  next-word-reads.Learnt,
-  table-of-reads.Asked,
-  table-of-reads.Learnt,
-  read-reads.Asked,
-  read-reads.Learnt,
-  least-reads.Asked,
-  least-reads.Learnt,
-  next-child-reads.Asked,
-  next-child-reads.Learnt,
-  page-of-reads.Asked,
-  page-of-reads.Learnt,
-  judge-partition-below t,
-  judge-partition.Post,
-)
+judge-children-loop-again : (t : ℕ) → judge-children-lts.Need-loop-again (judge-children-claims t)
     (judge-children-at t)
     judge-children.Post
     judge-children-Inv-loop2
@@ -1104,29 +462,7 @@ judge-children-loop-again t c =
     let dir = c .before .before .before .before .before .before .before .before .before .before .before .before .before .before .words-of .result .now in
     (c .before .before .loop2 .inv .0 ∙ c .before .before .before .before .before .before .before .before .before .before .loop .inv .0, next-high (used dir) (length dir) (c .before .before .before .before .before .before .before .before .before .before .loop .i + 1) (omega (arith, c .before .before .before .before .before .before .before .before .before .loop-test .taken)) (c .next-word2 .ensures), next-here (used dir) (length dir) (c .before .before .before .before .before .before .before .before .before .before .loop .i + 1) (omega (arith, c .before .before .before .before .before .before .before .before .before .loop-test .taken)) (c .next-word2 .ensures), λ d e e1. rows-next (s .b) (s .m .now) (childStep (s .b) (s .m .now) d (W.child (children (s .b) (s .m .now)) (own (s .b) (s .m .now)) (partitionTest (s .b) (s .m .now)) (s .left))) d dir e (some (c .before .before .before .before .before .before .before .before .before .before .loop .seen)) (some (c .before .before .loop2 .seen)) (c .before .before .before .before .before .before .before .before .before .loop-test .taken) (sym (children-row (s .b) (s .m .now) d (c .before .before .before .before .before .before .before .before .before .before .loop .i) e (c .before .before .before .before .before .before .before .before .before .loop-test .taken) (c .before .before .before .before .before .before .before .before .before .before .loop .inv .2 (c .before .before .before .before .before .before .before .before .before .loop-test .taken)) (c .before .before .before .before .before .before .before .table-of .ensures) e1 (c .before .before .before .before .before .before .read .ensures) (c .before .before .before .before .before .table-of2 .ensures) (W.child (children (s .b) (s .m .now)) (own (s .b) (s .m .now)) (partitionTest (s .b) (s .m .now)) (s .left)) (some (c .before .before .before .before .before .before .before .before .before .before .loop .seen)) ∙ c .before .before .loop2 .inv .3 ∙ picked-end (λ k. childWords (getD pt k 0) (getD s1 k 0)) (λ t k. W.child (children (s .b) (s .m .now)) (own (s .b) (s .m .now)) (partitionTest (s .b) (s .m .now)) (s .left) t (pageOf (s .b) (getD pt k 0))) (pageWords (s .b)) n (child-short (s .b) (s .m .now) s1 (getD (c .before .before .before .before .before .before .before .before .before .before .before .before .before .before .words-of .result .now) (c .before .before .before .before .before .before .before .before .before .before .loop .i) 0) (c .before .before .before .before .before .before .before .table-of .ensures) (c .before .before .before .before .least .ensures)) (child-rest pt s1 (c .before .before .before .before .least .ensures)) (some (c .before .before .loop2 .seen)) (c .before .loop2-test .left))) (c .next-word2 .ensures) (c .before .before .before .before .before .before .before .before .before .before .loop .inv .3 d e e1))
 
--- src/cycle.rt:41:1
-judge-children-same-length-3 : (t : ℕ) → judge-children-lts.Need-same-length-3 (
-  directory-reads.Asked,
-  directory-reads.Learnt,
-  words-of-reads.Asked,
-  words-of-reads.Learnt,
-  shadow1-reads.Asked,
-  shadow1-reads.Learnt,
-  next-word-reads.Asked,
-  next-word-reads.Learnt,
-  table-of-reads.Asked,
-  table-of-reads.Learnt,
-  read-reads.Asked,
-  read-reads.Learnt,
-  least-reads.Asked,
-  least-reads.Learnt,
-  next-child-reads.Asked,
-  next-child-reads.Learnt,
-  page-of-reads.Asked,
-  page-of-reads.Learnt,
-  judge-partition-below t,
-  judge-partition.Post,
-)
+judge-children-same-length-3 : (t : ℕ) → judge-children-lts.Need-same-length-3 (judge-children-claims t)
     (judge-children-at t)
     judge-children.Post
     judge-children-Inv-loop2
@@ -1135,29 +471,7 @@ judge-children-same-length-3 : (t : ℕ) → judge-children-lts.Need-same-length
     judge-children-μ-loop
 judge-children-same-length-3 t c = search needs
 
--- src/cycle.rt:41:1
-judge-children-returns-3 : (t : ℕ) → judge-children-lts.Need-returns-3 (
-  directory-reads.Asked,
-  directory-reads.Learnt,
-  words-of-reads.Asked,
-  words-of-reads.Learnt,
-  shadow1-reads.Asked,
-  shadow1-reads.Learnt,
-  next-word-reads.Asked,
-  next-word-reads.Learnt,
-  table-of-reads.Asked,
-  table-of-reads.Learnt,
-  read-reads.Asked,
-  read-reads.Learnt,
-  least-reads.Asked,
-  least-reads.Learnt,
-  next-child-reads.Asked,
-  next-child-reads.Learnt,
-  page-of-reads.Asked,
-  page-of-reads.Learnt,
-  judge-partition-below t,
-  judge-partition.Post,
-)
+judge-children-returns-3 : (t : ℕ) → judge-children-lts.Need-returns-3 (judge-children-claims t)
     (judge-children-at t)
     judge-children.Post
     judge-children-Inv-loop2
@@ -1170,199 +484,56 @@ judge-children-returns-3 t c =
     let e1 = c .before .before .before .words-of2 .ensures ∙ ap (page (s .b) (s .m .now)) (c .before .before .before .before .shadow1 .ensures) in
     rows-end (s .b) (s .m .now) (childStep (s .b) (s .m .now) (s .d .0) (W.child (children (s .b) (s .m .now)) (own (s .b) (s .m .now)) (partitionTest (s .b) (s .m .now)) (s .left))) (s .d .0) (c .before .before .before .before .before .words-of .result .now) e (some (c .before .loop .seen)) (c .loop-test .left) (c .before .loop .inv .3 (s .d .0) e e1)
 
-judge-partition-forms-test-requires : (t : ℕ) → judge-partition-lts.Need-forms-test-requires (
-  forms-test-reads.Asked,
-  forms-test-reads.Learnt,
-  mark-kernel-reads.Asked,
-  mark-kernel-reads.Learnt,
-  tally-reads.Asked,
-  tally-reads.Learnt,
-  tables-test-reads.Asked,
-  tables-test-reads.Learnt,
-  judge-children-below t,
-  judge-children.Post,
-) (judge-partition-at t) judge-partition.Post
+judge-partition-forms-test-requires : (t : ℕ) → judge-partition-lts.Need-forms-test-requires (judge-partition-claims t) (judge-partition-at t) judge-partition.Post
 judge-partition-forms-test-requires t c κs = search needs
 
-judge-partition-returns : (t : ℕ) → judge-partition-lts.Need-returns (
-  forms-test-reads.Asked,
-  forms-test-reads.Learnt,
-  mark-kernel-reads.Asked,
-  mark-kernel-reads.Learnt,
-  tally-reads.Asked,
-  tally-reads.Learnt,
-  tables-test-reads.Asked,
-  tables-test-reads.Learnt,
-  judge-children-below t,
-  judge-children.Post,
-) (judge-partition-at t) judge-partition.Post
+judge-partition-returns : (t : ℕ) → judge-partition-lts.Need-returns (judge-partition-claims t) (judge-partition-at t) judge-partition.Post
 judge-partition-returns t c =
     let s = c .before .before .before .before .args in
     judge-bad _ _ _ _ _ _ (unformed (s .b) (s .m .now) (s .d .0) (c .before .forms-test .ensures) (c .if1 .taken))
 
-judge-partition-mark-kernel-requires : (t : ℕ) → judge-partition-lts.Need-mark-kernel-requires (
-  forms-test-reads.Asked,
-  forms-test-reads.Learnt,
-  mark-kernel-reads.Asked,
-  mark-kernel-reads.Learnt,
-  tally-reads.Asked,
-  tally-reads.Learnt,
-  tables-test-reads.Asked,
-  tables-test-reads.Learnt,
-  judge-children-below t,
-  judge-children.Post,
-) (judge-partition-at t) judge-partition.Post
+judge-partition-mark-kernel-requires : (t : ℕ) → judge-partition-lts.Need-mark-kernel-requires (judge-partition-claims t) (judge-partition-at t) judge-partition.Post
 judge-partition-mark-kernel-requires t c κs =
     let s = c .before .before .before .before .before .args in
     (c .before .before .before .before .before .pre .1, few (s .b) (s .m .now) (s .d .0) (c .before .before .forms-test .ensures) (c .before .if1 .left))
 
-judge-partition-same-length : (t : ℕ) → judge-partition-lts.Need-same-length (
-  forms-test-reads.Asked,
-  forms-test-reads.Learnt,
-  mark-kernel-reads.Asked,
-  mark-kernel-reads.Learnt,
-  tally-reads.Asked,
-  tally-reads.Learnt,
-  tables-test-reads.Asked,
-  tables-test-reads.Learnt,
-  judge-children-below t,
-  judge-children.Post,
-) (judge-partition-at t) judge-partition.Post
+judge-partition-same-length : (t : ℕ) → judge-partition-lts.Need-same-length (judge-partition-claims t) (judge-partition-at t) judge-partition.Post
 judge-partition-same-length t c = search needs
 
-judge-partition-returns-2 : (t : ℕ) → judge-partition-lts.Need-returns-2 (
-  forms-test-reads.Asked,
-  forms-test-reads.Learnt,
-  mark-kernel-reads.Asked,
-  mark-kernel-reads.Learnt,
-  tally-reads.Asked,
-  tally-reads.Learnt,
-  tables-test-reads.Asked,
-  tables-test-reads.Learnt,
-  judge-children-below t,
-  judge-children.Post,
-) (judge-partition-at t) judge-partition.Post
+judge-partition-returns-2 : (t : ℕ) → judge-partition-lts.Need-returns-2 (judge-partition-claims t) (judge-partition-at t) judge-partition.Post
 judge-partition-returns-2 t c =
     let s = c .before .before .before .before .before .before .before .before .before .args in
     judge-unmarked _ _ _ _ _ _ (own-no (s .b) (s .m .now) (s .d .0) (s .seen .now) (failed _ (c .before .before .before .mark-kernel .result) (c .before .before .before .mark-kernel .last .1 .1 .0) (c .before .before .before .mark-kernel .ensures) (not-true _ (c .if2 .taken))))
 
-judge-partition-tally-requires : (t : ℕ) → judge-partition-lts.Need-tally-requires (
-  forms-test-reads.Asked,
-  forms-test-reads.Learnt,
-  mark-kernel-reads.Asked,
-  mark-kernel-reads.Learnt,
-  tally-reads.Asked,
-  tally-reads.Learnt,
-  tables-test-reads.Asked,
-  tables-test-reads.Learnt,
-  judge-children-below t,
-  judge-children.Post,
-) (judge-partition-at t) judge-partition.Post
+judge-partition-tally-requires : (t : ℕ) → judge-partition-lts.Need-tally-requires (judge-partition-claims t) (judge-partition-at t) judge-partition.Post
 judge-partition-tally-requires t c κs = search needs
 
-judge-partition-same-length-2 : (t : ℕ) → judge-partition-lts.Need-same-length-2 (
-  forms-test-reads.Asked,
-  forms-test-reads.Learnt,
-  mark-kernel-reads.Asked,
-  mark-kernel-reads.Learnt,
-  tally-reads.Asked,
-  tally-reads.Learnt,
-  tables-test-reads.Asked,
-  tables-test-reads.Learnt,
-  judge-children-below t,
-  judge-children.Post,
-) (judge-partition-at t) judge-partition.Post
+judge-partition-same-length-2 : (t : ℕ) → judge-partition-lts.Need-same-length-2 (judge-partition-claims t) (judge-partition-at t) judge-partition.Post
 judge-partition-same-length-2 t c = search needs
 
-judge-partition-returns-3 : (t : ℕ) → judge-partition-lts.Need-returns-3 (
-  forms-test-reads.Asked,
-  forms-test-reads.Learnt,
-  mark-kernel-reads.Asked,
-  mark-kernel-reads.Learnt,
-  tally-reads.Asked,
-  tally-reads.Learnt,
-  tables-test-reads.Asked,
-  tables-test-reads.Learnt,
-  judge-children-below t,
-  judge-children.Post,
-) (judge-partition-at t) judge-partition.Post
+judge-partition-returns-3 : (t : ℕ) → judge-partition-lts.Need-returns-3 (judge-partition-claims t) (judge-partition-at t) judge-partition.Post
 judge-partition-returns-3 t c =
     let s = c .before .before .before .before .before .before .before .before .before .before .before .before .before .before .before .args in
     let kernel = passed _ (c .before .before .before .before .before .before .before .before .before .mark-kernel .result) (c .before .before .before .before .before .before .before .before .before .mark-kernel .last .1 .1 .0) (c .before .before .before .before .before .before .before .before .before .mark-kernel .ensures) (not-false _ (c .before .before .before .before .before .before .if2 .left)) in
     let hands = failed _ (c .before .before .before .before .tally .result .marked) (c .before .before .before .before .tally .last .1 .1 .0) (c .before .before .before .before .tally .ensures .0) (not-true _ (c .if3 .taken)) in
     judge-unmarked _ _ _ _ _ _ (own-yes (s .b) (s .m .now) (s .d .0) (s .seen .now) (c .before .before .before .before .before .before .before .before .before .mark-kernel .last .1 .1 .0) kernel ∙ hands)
 
-judge-partition-tables-test-requires : (t : ℕ) → judge-partition-lts.Need-tables-test-requires (
-  forms-test-reads.Asked,
-  forms-test-reads.Learnt,
-  mark-kernel-reads.Asked,
-  mark-kernel-reads.Learnt,
-  tally-reads.Asked,
-  tally-reads.Learnt,
-  tables-test-reads.Asked,
-  tables-test-reads.Learnt,
-  judge-children-below t,
-  judge-children.Post,
-) (judge-partition-at t) judge-partition.Post
+judge-partition-tables-test-requires : (t : ℕ) → judge-partition-lts.Need-tables-test-requires (judge-partition-claims t) (judge-partition-at t) judge-partition.Post
 judge-partition-tables-test-requires t c κs = search needs
 
-judge-partition-same-length-3 : (t : ℕ) → judge-partition-lts.Need-same-length-3 (
-  forms-test-reads.Asked,
-  forms-test-reads.Learnt,
-  mark-kernel-reads.Asked,
-  mark-kernel-reads.Learnt,
-  tally-reads.Asked,
-  tally-reads.Learnt,
-  tables-test-reads.Asked,
-  tables-test-reads.Learnt,
-  judge-children-below t,
-  judge-children.Post,
-) (judge-partition-at t) judge-partition.Post
+judge-partition-same-length-3 : (t : ℕ) → judge-partition-lts.Need-same-length-3 (judge-partition-claims t) (judge-partition-at t) judge-partition.Post
 judge-partition-same-length-3 t c = search needs
 
-judge-partition-returns-4 : (t : ℕ) → judge-partition-lts.Need-returns-4 (
-  forms-test-reads.Asked,
-  forms-test-reads.Learnt,
-  mark-kernel-reads.Asked,
-  mark-kernel-reads.Learnt,
-  tally-reads.Asked,
-  tally-reads.Learnt,
-  tables-test-reads.Asked,
-  tables-test-reads.Learnt,
-  judge-children-below t,
-  judge-children.Post,
-) (judge-partition-at t) judge-partition.Post
+judge-partition-returns-4 : (t : ℕ) → judge-partition-lts.Need-returns-4 (judge-partition-claims t) (judge-partition-at t) judge-partition.Post
 judge-partition-returns-4 t c =
     let s = c .before .before .before .before .before .before .before .before .before .before .before .before .before .before .before .before .before .args in
     let counts = c .before .before .before .before .before .before .tally .ensures .1 (not-false _ (c .before .before .if3 .left)) in
     judge-bad _ _ _ _ _ _ (no (tested (s .b) (s .m .now) (s .d .0) (c .before .before .before .before .before .before .before .before .before .before .before .before .before .before .forms-test .ensures) (c .before .before .before .before .before .before .before .before .before .before .before .before .before .if1 .left) counts (c .before .tables-test .ensures)) (c .if4 .taken))
 
-judge-partition-same-length-4 : (t : ℕ) → judge-partition-lts.Need-same-length-4 (
-  forms-test-reads.Asked,
-  forms-test-reads.Learnt,
-  mark-kernel-reads.Asked,
-  mark-kernel-reads.Learnt,
-  tally-reads.Asked,
-  tally-reads.Learnt,
-  tables-test-reads.Asked,
-  tables-test-reads.Learnt,
-  judge-children-below t,
-  judge-children.Post,
-) (judge-partition-at t) judge-partition.Post
+judge-partition-same-length-4 : (t : ℕ) → judge-partition-lts.Need-same-length-4 (judge-partition-claims t) (judge-partition-at t) judge-partition.Post
 judge-partition-same-length-4 t c = search needs
 
-judge-partition-returns-5 : (t : ℕ) → judge-partition-lts.Need-returns-5 (
-  forms-test-reads.Asked,
-  forms-test-reads.Learnt,
-  mark-kernel-reads.Asked,
-  mark-kernel-reads.Learnt,
-  tally-reads.Asked,
-  tally-reads.Learnt,
-  tables-test-reads.Asked,
-  tables-test-reads.Learnt,
-  judge-children-below t,
-  judge-children.Post,
-) (judge-partition-at t) judge-partition.Post
+judge-partition-returns-5 : (t : ℕ) → judge-partition-lts.Need-returns-5 (judge-partition-claims t) (judge-partition-at t) judge-partition.Post
 judge-partition-returns-5 t c =
     let s = c .before .before .before .before .before .before .before .before .before .before .before .before .before .before .before .before .before .before .before .args in
     let kernel = passed _ (c .before .before .before .before .before .before .before .before .before .before .before .before .before .mark-kernel .result) (c .before .before .before .before .before .before .before .before .before .before .before .before .before .mark-kernel .last .1 .1 .0) (c .before .before .before .before .before .before .before .before .before .before .before .before .before .mark-kernel .ensures) (not-false _ (c .before .before .before .before .before .before .before .before .before .before .if2 .left)) in
@@ -1370,46 +541,13 @@ judge-partition-returns-5 t c =
     let counts = c .before .before .before .before .before .before .before .before .tally .ensures .1 (not-false _ (c .before .before .before .before .if3 .left)) in
     judge-go _ _ _ _ _ _ (c .before .before .before .before .before .before .before .before .tally .last .1 .1 .0) (yes (tested (s .b) (s .m .now) (s .d .0) (c .before .before .before .before .before .before .before .before .before .before .before .before .before .before .before .before .forms-test .ensures) (c .before .before .before .before .before .before .before .before .before .before .before .before .before .before .before .if1 .left) counts (c .before .before .before .tables-test .ensures)) (c .before .before .if4 .left)) (own-yes (s .b) (s .m .now) (s .d .0) (s .seen .now) (c .before .before .before .before .before .before .before .before .before .before .before .before .before .mark-kernel .last .1 .1 .0) kernel ∙ hands) ∙ no-child (s .b) (s .m .now) _ (c .before .before .before .before .before .before .before .before .tally .last .1 .1 .0) (s .d .0) (counts .2) (c .if5 .taken)
 
-judge-partition-judge-children-requires : (t : ℕ) → judge-partition-lts.Need-judge-children-requires (
-  forms-test-reads.Asked,
-  forms-test-reads.Learnt,
-  mark-kernel-reads.Asked,
-  mark-kernel-reads.Learnt,
-  tally-reads.Asked,
-  tally-reads.Learnt,
-  tables-test-reads.Asked,
-  tables-test-reads.Learnt,
-  judge-children-below t,
-  judge-children.Post,
-) (judge-partition-at t) judge-partition.Post
+judge-partition-judge-children-requires : (t : ℕ) → judge-partition-lts.Need-judge-children-requires (judge-partition-claims t) (judge-partition-at t) judge-partition.Post
 judge-partition-judge-children-requires t c κs = search needs
 
-judge-partition-same-length-5 : (t : ℕ) → judge-partition-lts.Need-same-length-5 (
-  forms-test-reads.Asked,
-  forms-test-reads.Learnt,
-  mark-kernel-reads.Asked,
-  mark-kernel-reads.Learnt,
-  tally-reads.Asked,
-  tally-reads.Learnt,
-  tables-test-reads.Asked,
-  tables-test-reads.Learnt,
-  judge-children-below t,
-  judge-children.Post,
-) (judge-partition-at t) judge-partition.Post
+judge-partition-same-length-5 : (t : ℕ) → judge-partition-lts.Need-same-length-5 (judge-partition-claims t) (judge-partition-at t) judge-partition.Post
 judge-partition-same-length-5 t c = search needs
 
-judge-partition-returns-6 : (t : ℕ) → judge-partition-lts.Need-returns-6 (
-  forms-test-reads.Asked,
-  forms-test-reads.Learnt,
-  mark-kernel-reads.Asked,
-  mark-kernel-reads.Learnt,
-  tally-reads.Asked,
-  tally-reads.Learnt,
-  tables-test-reads.Asked,
-  tables-test-reads.Learnt,
-  judge-children-below t,
-  judge-children.Post,
-) (judge-partition-at t) judge-partition.Post
+judge-partition-returns-6 : (t : ℕ) → judge-partition-lts.Need-returns-6 (judge-partition-claims t) (judge-partition-at t) judge-partition.Post
 judge-partition-returns-6 t c =
     let s = c .before .before .before .before .before .before .before .before .before .before .before .before .before .before .before .before .before .before .before .before .before .before .before .args in
     let kernel = passed _ (c .before .before .before .before .before .before .before .before .before .before .before .before .before .before .before .before .before .mark-kernel .result) (c .before .before .before .before .before .before .before .before .before .before .before .before .before .before .before .before .before .mark-kernel .last .1 .1 .0) (c .before .before .before .before .before .before .before .before .before .before .before .before .before .before .before .before .before .mark-kernel .ensures) (not-false _ (c .before .before .before .before .before .before .before .before .before .before .before .before .before .before .if2 .left)) in
@@ -1419,28 +557,7 @@ judge-partition-returns-6 t c =
 
 pub +judge-children+judge-partition-spec : {M : Type 1} → statement M
 +judge-children+judge-partition-spec =
-    close μ-judge-children μ-judge-partition (λ t. judge-children-lts.spec (
-      directory-reads.Asked,
-      directory-reads.Learnt,
-      words-of-reads.Asked,
-      words-of-reads.Learnt,
-      shadow1-reads.Asked,
-      shadow1-reads.Learnt,
-      next-word-reads.Asked,
-      next-word-reads.Learnt,
-      table-of-reads.Asked,
-      table-of-reads.Learnt,
-      read-reads.Asked,
-      read-reads.Learnt,
-      least-reads.Asked,
-      least-reads.Learnt,
-      next-child-reads.Asked,
-      next-child-reads.Learnt,
-      page-of-reads.Asked,
-      page-of-reads.Learnt,
-      judge-partition-below t,
-      judge-partition.Post,
-    )
+    close μ-judge-children μ-judge-partition (λ t. judge-children-lts.spec (judge-children-claims t)
     (judge-children-at t)
     judge-children.Post
     judge-children-Inv-loop2
@@ -1480,18 +597,7 @@ pub +judge-children+judge-partition-spec : {M : Type 1} → statement M
     (judge-children-loop-again t)
     (judge-children-same-length-3 t)
     (judge-children-returns-3 t))
-    λ t. judge-partition-lts.spec (
-      forms-test-reads.Asked,
-      forms-test-reads.Learnt,
-      mark-kernel-reads.Asked,
-      mark-kernel-reads.Learnt,
-      tally-reads.Asked,
-      tally-reads.Learnt,
-      tables-test-reads.Asked,
-      tables-test-reads.Learnt,
-      judge-children-below t,
-      judge-children.Post,
-    )
+    λ t. judge-partition-lts.spec (judge-partition-claims t)
     (judge-partition-at t)
     judge-partition.Post
     (judge-partition-forms-test-requires t)
