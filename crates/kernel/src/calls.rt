@@ -25,7 +25,8 @@ pub fn create_partition(m: &mut [u32], five: [u32; 5]) -> Answer
 
 // 2.
 pub fn delete_partition(m: &mut [u32], child: u32) -> Answer
-    ensures { λ r. ⌜ (said r ≡ answer 6 (now (m .entry)) (Call.deletePartition child)) × (now (m .exit) ≡ after 6 (now (m .entry)) (Call.deletePartition child)) ⌝ }
+    ensures { λ r. ⌜ (said r ≡ answer 6 (now (m .entry)) (Call.deletePartition child))
+        × (now (m .exit) ≡ after 6 (now (m .entry)) (Call.deletePartition child)) ⌝ }
 {
     let b = pages::width();
     let good = judge::is_sound(m);
@@ -34,7 +35,8 @@ pub fn delete_partition(m: &mut [u32], child: u32) -> Answer
 
 // 3.
 pub fn add_vaddr(m: &mut [u32], page: u32, child: u32, target: u32, rights: u32) -> Answer
-    ensures { λ r. ⌜ (said r ≡ answer 6 (now (m .entry)) (Call.addVAddr page child target rights)) × (now (m .exit) ≡ after 6 (now (m .entry)) (Call.addVAddr page child target rights)) ⌝ }
+    ensures { λ r. ⌜ (said r ≡ answer 6 (now (m .entry)) (Call.addVAddr page child target rights))
+        × (now (m .exit) ≡ after 6 (now (m .entry)) (Call.addVAddr page child target rights)) ⌝ }
 {
     let b = pages::width();
     let good = judge::is_sound(m);
@@ -43,7 +45,8 @@ pub fn add_vaddr(m: &mut [u32], page: u32, child: u32, target: u32, rights: u32)
 
 // 4.
 pub fn remove_vaddr(m: &mut [u32], child: u32, target: u32) -> Answer
-    ensures { λ r. ⌜ (said r ≡ answer 6 (now (m .entry)) (Call.removeVAddr child target)) × (now (m .exit) ≡ after 6 (now (m .entry)) (Call.removeVAddr child target)) ⌝ }
+    ensures { λ r. ⌜ (said r ≡ answer 6 (now (m .entry)) (Call.removeVAddr child target))
+        × (now (m .exit) ≡ after 6 (now (m .entry)) (Call.removeVAddr child target)) ⌝ }
 {
     let b = pages::width();
     let good = judge::is_sound(m);
@@ -52,7 +55,8 @@ pub fn remove_vaddr(m: &mut [u32], child: u32, target: u32) -> Answer
 
 // 5.
 pub fn page_count(m: &[u32], child: u32, target: u32) -> Answer
-    ensures { λ r. ⌜ (said r ≡ answer 6 (now (m .entry)) (Call.pageCount child target)) × (now (m .entry) ≡ after 6 (now (m .entry)) (Call.pageCount child target)) ⌝ }
+    ensures { λ r. ⌜ (said r ≡ answer 6 (now (m .entry)) (Call.pageCount child target))
+        × (now (m .entry) ≡ after 6 (now (m .entry)) (Call.pageCount child target)) ⌝ }
 {
     let b = pages::width();
     let good = judge::is_sound(m);
@@ -61,7 +65,8 @@ pub fn page_count(m: &[u32], child: u32, target: u32) -> Answer
 
 // 6.
 pub fn prepare(m: &mut [u32], child: u32, target: u32, first: u32) -> Answer
-    ensures { λ r. ⌜ (said r ≡ answer 6 (now (m .entry)) (Call.prepare child target first)) × (now (m .exit) ≡ after 6 (now (m .entry)) (Call.prepare child target first)) ⌝ }
+    ensures { λ r. ⌜ (said r ≡ answer 6 (now (m .entry)) (Call.prepare child target first))
+        × (now (m .exit) ≡ after 6 (now (m .entry)) (Call.prepare child target first)) ⌝ }
 {
     let b = pages::width();
     let good = judge::is_sound(m);
@@ -70,7 +75,8 @@ pub fn prepare(m: &mut [u32], child: u32, target: u32, first: u32) -> Answer
 
 // 7.
 pub fn collect(m: &mut [u32], child: u32, target: u32) -> Answer
-    ensures { λ r. ⌜ (said r ≡ answer 6 (now (m .entry)) (Call.collect child target)) × (now (m .exit) ≡ after 6 (now (m .entry)) (Call.collect child target)) ⌝ }
+    ensures { λ r. ⌜ (said r ≡ answer 6 (now (m .entry)) (Call.collect child target))
+        × (now (m .exit) ≡ after 6 (now (m .entry)) (Call.collect child target)) ⌝ }
 {
     let b = pages::width();
     let good = judge::is_sound(m);

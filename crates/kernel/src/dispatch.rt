@@ -12,7 +12,8 @@ ghost use Rattle.kernel.specs.Sequence.{numbered, five, callAt};
 
 // The call of number n: 0 is format, 1 to 12 are document 01's. a holds its arguments.
 pub fn by_number(m: &mut [u32], n: u32, a: [u32; 5]) -> Answer
-    ensures { λ r. ⌜ (said r ≡ answer 6 (now (m .entry)) (numbered n (λ j. getD a j 0))) × (now (m .exit) ≡ after 6 (now (m .entry)) (numbered n (λ j. getD a j 0))) ⌝ }
+    ensures { λ r. ⌜ (said r ≡ answer 6 (now (m .entry)) (numbered n (λ j. getD a j 0)))
+        × (now (m .exit) ≡ after 6 (now (m .entry)) (numbered n (λ j. getD a j 0))) ⌝ }
 {
     match n {
         0 => calls::format(m),
@@ -48,7 +49,8 @@ fn arguments(ws: &[u32], i: usize) -> [u32; 5]
 // The call whose number is word i.
 pub fn call(m: &mut [u32], ws: &[u32], i: usize) -> u64
     requires { ⌜ i < length (now ws) ⌝ }
-    ensures { λ r. ⌜ (r ≡ packed (answer 6 (now (m .entry)) (callAt (now (ws .entry)) i))) × (now (m .exit) ≡ after 6 (now (m .entry)) (callAt (now (ws .entry)) i)) ⌝ }
+    ensures { λ r. ⌜ (r ≡ packed (answer 6 (now (m .entry)) (callAt (now (ws .entry)) i)))
+        × (now (m .exit) ≡ after 6 (now (m .entry)) (callAt (now (ws .entry)) i)) ⌝ }
 {
     let n = pages::read(ws, i);
     let a = arguments(ws, i);

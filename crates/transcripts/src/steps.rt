@@ -40,7 +40,8 @@ fn arguments(bytes: &[u8], i: usize) -> [u32; 5]
 // The call of the record that starts at byte i.
 pub fn step(m: &mut [u32], bytes: &[u8], i: usize) -> Answer
     requires { ⌜ wholeRecord (now bytes) i ≡ true ⌝ }
-    ensures { λ r. ⌜ (said r ≡ answer 6 (now (m .entry)) (callAt (now (bytes .entry)) i)) × (now (m .exit) ≡ after 6 (now (m .entry)) (callAt (now (bytes .entry)) i)) ⌝ }
+    ensures { λ r. ⌜ (said r ≡ answer 6 (now (m .entry)) (callAt (now (bytes .entry)) i))
+        × (now (m .exit) ≡ after 6 (now (m .entry)) (callAt (now (bytes .entry)) i)) ⌝ }
 {
     let n = word_in(bytes, i);
     let a = arguments(bytes, i);
