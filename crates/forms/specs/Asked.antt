@@ -1,11 +1,13 @@
 -- What the code asks at one index or of one pair, put together from the tests of the crate soundness. Assumes nothing.
+use mathlib.Core.Path.{_≡_}
 use mathlib.Core.List.{List}
-use mathlib.Core.Bool.{Bool, cond, not, _&&_, _||_}
-use Prim.Native.Nat.{ℕ, _+_, _*_}
+use mathlib.Core.Bool.{Bool, true, cond, not, _&&_, _||_}
+use Prim.Native.Nat.{ℕ, _+_, _-_, _*_, _≤_}
 use lib.Dec.{eqb}
-use Rattle.walk.specs.Finite.{from, once}
+use Rattle.walk.specs.Finite.{from, all, once}
+use Rattle.memory.specs.Geometry.{pageWords}
 use Rattle.memory.specs.Words.{word}
-use Rattle.memory.specs.Partition.{directory, shadow1, shadow2, threes}
+use Rattle.memory.specs.Partition.{directory, shadow1, shadow2, list, threes}
 use Rattle.soundness.specs.Test.{virtual, physical, tableLink, directoryTest, stands, agrees, shutAt}
 
 module _ (b : ℕ) (m : List ℕ) where
@@ -18,6 +20,11 @@ module _ (b : ℕ) (m : List ℕ) where
   -- the words of index i of d's directory and shadows are w, x and y
   unfoldable pub alike : ℕ → ℕ → ℕ → ℕ → ℕ → Bool
   alike d w x y i = eqb (word b m (directory b m d) i) w && eqb (word b m (shadow1 b m d) i) x && eqb (word b m (shadow2 b m d) i) y
+
+  -- three j of d's list stands where the words are w, x and y
+  unfoldable pub listedAs : ℕ → ℕ → ℕ → ℕ → ℕ → Bool
+  listedAs d w x y j =
+      eqb w (word b m (list b m d) (2 + 6 * j) + 1) && eqb x (word b m (list b m d) (4 + 6 * j) + 1) && eqb y (word b m (list b m d) (6 + 6 * j) + 1)
 
   -- index i of d has no tables; it has the forms, and has no tables or is listed once
   unfoldable pub noTables : ℕ → ℕ → Bool
@@ -33,3 +40,9 @@ module _ (b : ℕ) (m : List ℕ) where
 
   unfoldable pub pairShut : ℕ → ℕ → ℕ → ℕ → Bool
   pairShut d p k j = agrees b m d (word b m p (k + 2 * j)) (word b m p (k + 1 + 2 * j)) && shutAt b m d (word b m p (k + 2 * j))
+
+-- the indices of d from i up to r have no tables
+pub record Skipped (b : ℕ) (m : List ℕ) (d i r : ℕ) : Type 0 where
+  pub low : i ≤ r
+  pub high : r ≤ pageWords b
+  pub empty : all (noTables b m d) (from (r - i) i) ≡ true

@@ -1,11 +1,11 @@
 -- The pages of a partition as the code looked them up. Assumes nothing.
 use mathlib.Core.Path.{_≡_}
-use mathlib.Core.Bool.{true}
 use mathlib.Core.List.{List}
+use mathlib.Core.Bool.{true}
 use Prim.Native.Nat.{ℕ, _≤_}
 use lib.ListN.{length}
 use Rattle.memory.specs.Geometry.{pageWords}
-use Rattle.memory.specs.Words.{index}
+use Rattle.memory.specs.Words.{word, index}
 use Rattle.memory.specs.Partition.{directory, shadow1, shadow2, list, threes}
 use Rattle.soundness.specs.Test.{listTest}
 use Rattle.forms.specs.declared.own.Own.{Own}
@@ -27,3 +27,9 @@ pub record Named (b : ℕ) (m : List ℕ) (o : Own) : Type 0 where
 pub record Listed (b : ℕ) (m : List ℕ) (o : Own) : Type 0 where
   pub named : Named b m o
   pub passed : listTest b m (o .descriptor .0) ≡ true
+
+-- w, x and y are the words of index i of d's directory, shadow 1 and shadow 2
+pub record WordsAt (b : ℕ) (m : List ℕ) (d i w x y : ℕ) : Type 0 where
+  pub in-directory : w ≡ word b m (directory b m d) i
+  pub in-shadow1 : x ≡ word b m (shadow1 b m d) i
+  pub in-shadow2 : y ≡ word b m (shadow2 b m d) i

@@ -1,18 +1,15 @@
 // The indices of a directory and its shadows: "All three have tables at the same i", and "each index that has tables is listed once".
 use crate::own::Own;
-use crate::own::directory_at;
-use crate::own::shadow1_at;
-use crate::own::shadow2_at;
+use crate::own::words_at;
 use crate::tables::three_links;
-use crate::threes::index_once;
+use crate::threes::listed_once;
 use pages::page_words;
 ghost use mathlib.Core.Path.{_≡_};
-ghost use mathlib.Core.Bool.{_&&_};
 ghost use Prim.Native.Nat.{_+_, _<_, _≤_};
 ghost use lib.Dec.{eqb};
 ghost use Rattle.walk.specs.Finite.{from, all};
 ghost use Rattle.memory.specs.Geometry.{pageWords};
-ghost use Rattle.forms.specs.Asked.{noTables, indexTest};
+ghost use Rattle.forms.specs.Asked.{noTables, indexTest, Skipped};
 ghost use Rattle.forms.specs.Named.{Named, Listed};
 ghost use Rattle.pages.specs.Width.{Width};
 
@@ -23,16 +20,14 @@ pub fn index_test(b: u32, m: &[u32], o: Own, i: u32) -> bool
     requires place { ⌜ i < pageWords b ⌝ }
     ensures { λ r. ⌜ r ≡ indexTest b (now (m .entry)) (o .descriptor .0) i ⌝ }
 {
-    let w = directory_at(b, m, o, i);
-    let x = shadow1_at(b, m, o, i);
-    let y = shadow2_at(b, m, o, i);
-    if !three_links(b, m, w, x, y) {
+    let t = words_at(b, m, o, i);
+    if !three_links(b, m, t) {
         return false;
     }
-    if w == 0 {
+    if t.0 == 0 {
         return true;
     }
-    index_once(b, m, o, i)
+    listed_once(b, m, o, t)
 }
 
 // The three words of an index, joined.
@@ -42,7 +37,8 @@ fn joined_at(b: u32, m: &[u32], o: Own, i: u32) -> u32
     requires place { ⌜ i < pageWords b ⌝ }
     ensures { λ r. ⌜ eqb r 0 ≡ noTables b (now (m .entry)) (o .descriptor .0) i ⌝ }
 {
-    directory_at(b, m, o, i) | shadow1_at(b, m, o, i) | shadow2_at(b, m, o, i)
+    let t = words_at(b, m, o, i);
+    t.0 | t.1 | t.2
 }
 
 // Eight indices from i on have no tables.
@@ -62,25 +58,40 @@ fn row_empty(b: u32, m: &[u32], o: Own, i: u32) -> bool
     joined == 0
 }
 
-// Eight indices from i on. Most have no tables, so that is tested of all eight at once.
-pub fn row_test(b: u32, m: &[u32], o: Own, i: u32) -> bool
+// From i on, eight indices at a time, past those that have no tables.
+fn next_row(b: u32, m: &[u32], o: Own, i: u32) -> u32
     requires { ⌜ Width b ⌝ }
-    requires listed { ⌜ Listed b (now m) o ⌝ }
-    requires room { ⌜ i + 8 ≤ pageWords b ⌝ }
-    ensures { λ r. ⌜ r ≡ all (indexTest b (now (m .entry)) (o .descriptor .0)) (from 8 i) ⌝ }
+    requires named { ⌜ Named b (now m) o ⌝ }
+    requires start { ⌜ i ≤ pageWords b ⌝ }
+    ensures { λ r. ⌜ Skipped b (now (m .entry)) (o .descriptor .0) i r ⌝ }
 {
-    if row_empty(b, m, o, i) {
-        return true;
-    }
-    let end = i + 8;
+    let n = page_words(b);
     let mut k = i;
-    while k < end {
-        if !index_test(b, m, o, k) {
-            return false;
+    while 8 <= n - k {
+        if !row_empty(b, m, o, k) {
+            return k;
+        }
+        k += 8;
+    }
+    k
+}
+
+// From i on past the indices that have no tables, which are most.
+fn next_used(b: u32, m: &[u32], o: Own, i: u32) -> u32
+    requires { ⌜ Width b ⌝ }
+    requires named { ⌜ Named b (now m) o ⌝ }
+    requires start { ⌜ i ≤ pageWords b ⌝ }
+    ensures { λ r. ⌜ Skipped b (now (m .entry)) (o .descriptor .0) i r ⌝ }
+{
+    let n = page_words(b);
+    let mut k = next_row(b, m, o, i);
+    while k < n {
+        if joined_at(b, m, o, k) != 0 {
+            return k;
         }
         k += 1;
     }
-    true
+    k
 }
 
 // All indices of a partition.
@@ -90,12 +101,12 @@ pub fn indices_test(b: u32, m: &[u32], o: Own) -> bool
     ensures { λ r. ⌜ r ≡ all (indexTest b (now (m .entry)) (o .descriptor .0)) (from (pageWords b) 0) ⌝ }
 {
     let n = page_words(b);
-    let mut i: u32 = 0;
+    let mut i = next_used(b, m, o, 0);
     while i < n {
-        if !row_test(b, m, o, i) {
+        if !index_test(b, m, o, i) {
             return false;
         }
-        i += 8;
+        i = next_used(b, m, o, i + 1);
     }
     true
 }

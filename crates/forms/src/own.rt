@@ -16,7 +16,7 @@ ghost use Rattle.memory.specs.Geometry.{pageWords};
 ghost use Rattle.memory.specs.Words;
 ghost use Rattle.memory.specs.Words.{word};
 ghost use Rattle.memory.specs.Partition;
-ghost use Rattle.forms.specs.Named.{Whole, Named};
+ghost use Rattle.forms.specs.Named.{Whole, Named, WordsAt};
 ghost use Rattle.pages.specs.Width.{Width};
 
 pub struct Own {
@@ -80,31 +80,20 @@ fn word_of(b: u32, m: &[u32], p: PhysicalPage, i: u32, whole: bool) -> u32
     read(m, k)
 }
 
-pub fn directory_at(b: u32, m: &[u32], o: Own, i: u32) -> u32
-    requires { ⌜ Width b ⌝ }
-    requires named { ⌜ Named b (now m) o ⌝ }
-    requires place { ⌜ i < pageWords b ⌝ }
-    ensures { λ r. ⌜ r ≡ word b (now (m .entry)) (Partition.directory b (now (m .entry)) (o .descriptor .0)) i ⌝ }
-{
-    word_of(b, m, o.directory, i, o.whole)
-}
+// The words of the directory and the shadows at one index.
+pub struct Three(pub u32, pub u32, pub u32);
 
-pub fn shadow1_at(b: u32, m: &[u32], o: Own, i: u32) -> u32
+pub fn words_at(b: u32, m: &[u32], o: Own, i: u32) -> Three
     requires { ⌜ Width b ⌝ }
     requires named { ⌜ Named b (now m) o ⌝ }
     requires place { ⌜ i < pageWords b ⌝ }
-    ensures { λ r. ⌜ r ≡ word b (now (m .entry)) (Partition.shadow1 b (now (m .entry)) (o .descriptor .0)) i ⌝ }
+    ensures { λ r. ⌜ WordsAt b (now (m .entry)) (o .descriptor .0) i (r .0) (r .1) (r .2) ⌝ }
 {
-    word_of(b, m, o.shadow1, i, o.whole)
-}
-
-pub fn shadow2_at(b: u32, m: &[u32], o: Own, i: u32) -> u32
-    requires { ⌜ Width b ⌝ }
-    requires named { ⌜ Named b (now m) o ⌝ }
-    requires place { ⌜ i < pageWords b ⌝ }
-    ensures { λ r. ⌜ r ≡ word b (now (m .entry)) (Partition.shadow2 b (now (m .entry)) (o .descriptor .0)) i ⌝ }
-{
-    word_of(b, m, o.shadow2, i, o.whole)
+    Three(
+        word_of(b, m, o.directory, i, o.whole),
+        word_of(b, m, o.shadow1, i, o.whole),
+        word_of(b, m, o.shadow2, i, o.whole),
+    )
 }
 
 // Its index is worked out in 64 bits, since a list's first word may be any number.

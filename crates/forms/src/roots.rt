@@ -1,24 +1,15 @@
-// The words of a partition's directory and list.
+// The words of a partition's list.
 use pages::PhysicalPage;
-use pages::directory;
 use pages::index;
 use pages::list;
 use pages::read;
-use pages::read_word;
 ghost use mathlib.Core.Path.{_≡_};
 ghost use Prim.Native.Nat.{_<_};
 ghost use Rattle.memory.specs.Words.{word};
 ghost use Rattle.memory.specs.Partition;
 ghost use Rattle.pages.specs.Width.{Width};
 
-pub fn directory_word(b: u32, m: &[u32], d: PhysicalPage, i: u32) -> u32
-    requires { ⌜ Width b ⌝ }
-    ensures { λ r. ⌜ r ≡ word b (now (m .entry)) (Partition.directory b (now (m .entry)) (d .0)) i ⌝ }
-{
-    read_word(b, m, directory(b, m, d), i)
-}
-
-// Its index is worked out in 64 bits, since a list's first word may be any number.
+// Word i. Its index is worked out in 64 bits, since a list's first word may be any number.
 pub fn list_word(b: u32, m: &[u32], d: PhysicalPage, i: usize) -> u32
     requires { ⌜ Width b ⌝ }
     requires small { ⌜ i < 34359738368 ⌝ }

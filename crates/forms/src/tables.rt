@@ -1,5 +1,6 @@
 // "the words have the forms above": the words of a directory and of the tables.
 use crate::addresses::in_memory;
+use crate::own::Three;
 use pages::accessible;
 use pages::entry_of;
 use pages::frame;
@@ -24,30 +25,30 @@ pub fn table_link(b: u32, m: &[u32], w: u32) -> bool
     in_memory(b, m, w)
 }
 
-// "All three have tables at the same i": w, x and y are the words of directory and shadows.
-pub fn three_links(b: u32, m: &[u32], w: u32, x: u32, y: u32) -> bool
+// "All three have tables at the same i": t has the words of directory and shadows.
+pub fn three_links(b: u32, m: &[u32], t: Three) -> bool
     requires { ⌜ Width b ⌝ }
-    ensures { λ r. ⌜ r ≡ links b (now (m .entry)) w x y ⌝ }
+    ensures { λ r. ⌜ r ≡ links b (now (m .entry)) (t .0) (t .1) (t .2) ⌝ }
 {
-    if w == 0 {
-        if x != 0 {
+    if t.0 == 0 {
+        if t.1 != 0 {
             return false;
         }
-        return y == 0;
+        return t.2 == 0;
     }
-    if x == 0 {
+    if t.1 == 0 {
         return false;
     }
-    if y == 0 {
+    if t.2 == 0 {
         return false;
     }
-    if !table_link(b, m, w) {
+    if !table_link(b, m, t.0) {
         return false;
     }
-    if !table_link(b, m, x) {
+    if !table_link(b, m, t.1) {
         return false;
     }
-    table_link(b, m, y)
+    table_link(b, m, t.2)
 }
 
 // "physical address + 1 + 2·accessible + 4·rights"

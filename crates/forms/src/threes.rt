@@ -1,9 +1,8 @@
 // "Each listed three stands at one directory index, and each index that has tables is listed once."
 use crate::own::Own;
-use crate::own::directory_at;
+use crate::own::Three;
 use crate::own::list_at;
-use crate::own::shadow1_at;
-use crate::own::shadow2_at;
+use crate::own::words_at;
 use pages::page_words;
 ghost use mathlib.Core.Path.{_≡_};
 ghost use mathlib.Core.Bool.{cond, _&&_};
@@ -15,12 +14,9 @@ ghost use Rattle.memory.specs.Geometry.{pageWords};
 ghost use Rattle.memory.specs.Words.{word};
 ghost use Rattle.memory.specs.Partition;
 ghost use Rattle.soundness.specs.Test;
-ghost use Rattle.forms.specs.Asked.{alike};
+ghost use Rattle.forms.specs.Asked.{alike, listedAs};
 ghost use Rattle.forms.specs.Named.{Named, Listed};
 ghost use Rattle.pages.specs.Width.{Width};
-
-// The words of a directory and its shadows at one index.
-pub struct Three(pub u32, pub u32, pub u32);
 
 // The words with which three j of the list stands: page table, shadow 1 table, shadow 2 table, and 1 more.
 pub fn three_of(b: u32, m: &[u32], o: Own, j: u32) -> Three
@@ -41,23 +37,16 @@ pub fn three_of(b: u32, m: &[u32], o: Own, j: u32) -> Three
     Three(x + 1, y + 1, z + 1)
 }
 
-// The words at index i are t.
-fn are_at(b: u32, m: &[u32], o: Own, i: u32, t: Three) -> bool
-    requires { ⌜ Width b ⌝ }
-    requires named { ⌜ Named b (now m) o ⌝ }
-    requires place { ⌜ i < pageWords b ⌝ }
-    ensures { λ r. ⌜ r ≡ alike b (now (m .entry)) (o .descriptor .0) (t .0) (t .1) (t .2) i ⌝ }
+fn same(t: Three, u: Three) -> bool
+    ensures { λ r. ⌜ r ≡ eqb (t .0) (u .0) && eqb (t .1) (u .1) && eqb (t .2) (u .2) ⌝ }
 {
-    let w = directory_at(b, m, o, i);
-    let x = shadow1_at(b, m, o, i);
-    let y = shadow2_at(b, m, o, i);
-    if w != t.0 {
+    if t.0 != u.0 {
         return false;
     }
-    if x != t.1 {
+    if t.1 != u.1 {
         return false;
     }
-    y == t.2
+    t.2 == u.2
 }
 
 fn bit(x: bool) -> u32
@@ -76,7 +65,7 @@ fn standing(b: u32, m: &[u32], o: Own, t: Three) -> u32
     let mut found: u32 = 0;
     let mut i: u32 = 0;
     while i < n {
-        found += bit(are_at(b, m, o, i, t));
+        found += bit(same(words_at(b, m, o, i), t));
         i += 1;
     }
     found
@@ -103,19 +92,18 @@ pub fn threes_once(b: u32, m: &[u32], o: Own) -> bool
     true
 }
 
-// Index i is listed once.
-pub fn index_once(b: u32, m: &[u32], o: Own, i: u32) -> bool
+// The words t of an index are listed once.
+pub fn listed_once(b: u32, m: &[u32], o: Own, t: Three) -> bool
     requires { ⌜ Width b ⌝ }
     requires listed { ⌜ Listed b (now m) o ⌝ }
-    requires place { ⌜ i < pageWords b ⌝ }
     ensures { λ r.
-        ⌜ r ≡ once (λ j. Test.stands b (now (m .entry)) (o .descriptor .0) j i) (from (Partition.threes b (now (m .entry)) (o .descriptor .0)) 0) ⌝ }
+        ⌜ r ≡ once (listedAs b (now (m .entry)) (o .descriptor .0) (t .0) (t .1) (t .2)) (from (Partition.threes b (now (m .entry)) (o .descriptor .0)) 0) ⌝ }
 {
     let n = o.threes;
     let mut found: u32 = 0;
     let mut j: u32 = 0;
     while j < n {
-        found += bit(are_at(b, m, o, i, three_of(b, m, o, j)));
+        found += bit(same(t, three_of(b, m, o, j)));
         j += 1;
     }
     found == 1

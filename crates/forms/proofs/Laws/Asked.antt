@@ -1,14 +1,14 @@
 -- What is asked at an index and of a pair, in the code's terms. Assumes nothing.
 use mathlib.Core.Path.{_≡_, refl, sym, ap, _∙_}
-use mathlib.Core.Bool.{Bool, true, false, cond, not, _&&_, _||_}
 use mathlib.Core.List.{List}
+use mathlib.Core.Bool.{Bool, true, false, not, _&&_, _||_}
 use mathlib.Core.Logic.{_≢_}
-use Prim.Native.Nat.{ℕ, _+_, _-_, _*_, _%_, _^_, _<_, _≤_}
+use Prim.Native.Nat.{ℕ, _+_, _-_, _*_, _<_, _≤_}
 use native.Mathlib.Omega.{arith}
+use native.Mathlib.Decide.{decLt}
 use lib.Bits.{bitOr}
 use lib.Dec.{leb, eqb}
 use lib.ListN.{length}
-use lib.Pow.{pow-add}
 use borrow.Author.Tests.{eqb-true, eq-eqb, ne-eqb}
 use Rattle.walk.specs.Finite.{from, all, keep, once}
 use Rattle.memory.specs.Geometry.{pageWords, address, pageOf}
@@ -16,9 +16,10 @@ use Rattle.memory.specs.Words.{word}
 use Rattle.memory.specs.Entry.{accessible}
 use Rattle.memory.specs.Partition.{directory, shadow1, shadow2, list, threes, tableWord, mapping, lent}
 use Rattle.soundness.specs.Test.{virtual, physical, tableLink, directoryTest, stands, agrees, shutAt}
-use Rattle.forms.specs.Asked.{links, alike, noTables, indexTest, pairForm, pairShut}
+use Rattle.forms.specs.Asked.{links, alike, listedAs, noTables, indexTest, Skipped, pairForm, pairShut}
+use Rattle.forms.specs.Named.{WordsAt}
 use Rattle.forms.proofs.Laws.Tests.{and-false, and-fst, and-snd}
-use Rattle.forms.proofs.Laws.Loops.{all-at, all-yes}
+use Rattle.forms.proofs.Laws.Loops.{all-at, all-yes, all-skip}
 use Rattle.forms.proofs.Laws.Runs.{or-zero}
 
 -- ---- the words of an index
@@ -38,30 +39,30 @@ module _ (b : ℕ) (m : List ℕ) (w x y : ℕ) where
   links-some n = rw (ne-eqb w 0 n) refl
 
 -- w, x and y are the words of index i of d's directory and shadows
-module _ (b : ℕ) (m : List ℕ) (d i : ℕ) {w x y : ℕ} (e : w ≡ word b m (directory b m d) i) (q : x ≡ word b m (shadow1 b m d) i) (s : y ≡ word b m (shadow2 b m d) i) where
+module _ (b : ℕ) (m : List ℕ) (d i : ℕ) {w x y : ℕ} (h : WordsAt b m d i w x y) where
   pub joined-as : eqb (bitOr (bitOr w x) y) 0 ≡ noTables b m d i
   unfolding noTables alike
-  joined-as = or-zero (bitOr w x) y ∙ ap (λ (t : Bool). t && eqb y 0) (or-zero w x) ∙ rw (e, q, s) refl
+  joined-as = or-zero (bitOr w x) y ∙ ap (λ (t : Bool). t && eqb y 0) (or-zero w x) ∙ rw (h .in-directory, h .in-shadow1, h .in-shadow2) refl
 
-  pub alike-as : (u v z : ℕ) → alike b m d u v z i ≡ eqb w u && eqb x v && eqb y z
+  pub alike-as : (u v z : ℕ) → eqb w u && eqb x v && eqb y z ≡ alike b m d u v z i
   unfolding alike
-  alike-as u v z = rw (e, q, s) refl
+  alike-as u v z = rw (h .in-directory, h .in-shadow1, h .in-shadow2) refl
 
   links-as : directoryTest b m d i ≡ links b m w x y
   unfolding directoryTest links
-  links-as = rw (e, q, s) refl
+  links-as = rw (h .in-directory, h .in-shadow1, h .in-shadow2) refl
 
   pub index-wrong : links b m w x y ≡ false → false ≡ indexTest b m d i
   unfolding indexTest
-  index-wrong h = rw (links-as, h) refl
+  index-wrong l = rw (links-as, l) refl
 
   pub index-none : links b m w x y ≡ true → w ≡ 0 → true ≡ indexTest b m d i
   unfolding indexTest
-  index-none h z = rw (links-as, h, ← e, eq-eqb w 0 z) refl
+  index-none l z = rw (links-as, l, eq-eqb (word b m (directory b m d) i) 0 (sym (h .in-directory) ∙ z)) refl
 
-  pub index-some : links b m w x y ≡ true → w ≢ 0 → indexTest b m d i ≡ once (λ j. stands b m d j i) (from (threes b m d) 0)
-  unfolding indexTest
-  index-some h n = rw (links-as, h, ← e, ne-eqb w 0 n) refl
+  pub index-some : links b m w x y ≡ true → w ≢ 0 → once (listedAs b m d w x y) (from (threes b m d) 0) ≡ indexTest b m d i
+  unfolding indexTest listedAs stands
+  index-some l n = rw (links-as, l, ne-eqb (word b m (directory b m d) i) 0 (λ z. n (h .in-directory ∙ z)), h .in-directory, h .in-shadow1, h .in-shadow2) refl
 
 -- an index without tables passes, and so does a row of them
 no-tables : (b : ℕ) (m : List ℕ) (d i : ℕ) → noTables b m d i ≡ true → indexTest b m d i ≡ true
@@ -72,21 +73,41 @@ no-tables b m d i h =
     let r = word b m (shadow2 b m d) i in
     let k = and-fst (eqb p 0 && eqb q 0) (eqb r 0) h in
     let e : p ≡ 0 = eqb-true p 0 (and-fst (eqb p 0) (eqb q 0) k) in
-    sym (index-none b m d i {w = p} {x = q} {y = r} refl refl refl (links-none b m p q r e ∙ rw (and-snd (eqb p 0) (eqb q 0) k, and-snd (eqb p 0 && eqb q 0) (eqb r 0) h) refl) e)
+    sym (index-none b m d i {w = p} {x = q} {y = r} record { in-directory = refl; in-shadow1 = refl; in-shadow2 = refl } (links-none b m p q r e ∙ rw (and-snd (eqb p 0) (eqb q 0) k, and-snd (eqb p 0 && eqb q 0) (eqb r 0) h) refl) e)
 
-pub row-passes : (b : ℕ) (m : List ℕ) (d n i : ℕ) → all (noTables b m d) (from n i) ≡ true → all (indexTest b m d) (from n i) ≡ true
+row-passes : (b : ℕ) (m : List ℕ) (d n i : ℕ) → all (noTables b m d) (from n i) ≡ true → all (indexTest b m d) (from n i) ≡ true
 row-passes b m d n i h = all-yes (indexTest b m d) n i (λ x a l. no-tables b m d x (all-at (noTables b m d) n i h x a l))
 
--- the words of a page are whole rows of eight
-pub rows-whole : (b : ℕ) → 6 ≤ b → pageWords b % 8 ≡ 0
-rows-whole b h = let e : b - 3 + 3 ≡ b = omega arith in omega (arith, pow-add 2 (b - 3) 3, ap (λ (x : ℕ). 2 ^ x) e)
+-- ---- past the indices that have no tables
+
+module _ (b : ℕ) (m : List ℕ) (d : ℕ) where
+  pub skip-none : (i : ℕ) → i ≤ pageWords b → Skipped b m d i i
+  skip-none i h = record { low = omega arith; high = h; empty = all-yes (noTables b m d) (i - i) i (λ x a l. absurd (omega arith)) }
+
+  pub skip-by : (n : ℕ) {i k : ℕ} → Skipped b m d i k → k + n ≤ pageWords b → all (noTables b m d) (from n k) ≡ true → Skipped b m d i (k + n)
+  skip-by n {i} {k} s h e =
+      record { low = omega (arith, s .low); high = h; empty = all-yes (noTables b m d) (k + n - i) i (λ x a l. pick x a l (decLt x k)) }
+    where
+      pick : (x : ℕ) → i ≤ x → x < i + (k + n - i) → Dec (x < k) → noTables b m d x ≡ true
+      pick x a l (yes c) = all-at (noTables b m d) (k - i) i (s .empty) x a (omega (arith, s .low))
+      pick x a l (no c) = all-at (noTables b m d) n k e x (omega arith) (omega (arith, s .low))
+
+  pub skip-one : {i k : ℕ} → Skipped b m d i k → k < pageWords b → noTables b m d k ≡ true → Skipped b m d i (k + 1)
+  skip-one {i} {k} s h e = skip-by 1 s (omega arith) (all-yes (noTables b m d) 1 k (λ x a l. let q : x ≡ k = omega arith in ap (noTables b m d) q ∙ e))
+
+  -- the rest, once they are passed
+  pub skip-on : {o : Bool} {i r : ℕ} → Skipped b m d i r → o ≡ all (indexTest b m d) (from (pageWords b - i) i) → o ≡ all (indexTest b m d) (from (pageWords b - r) r)
+  skip-on {o} {i} {r} s v =
+      let e : i + (r - i) ≡ r = omega (arith, s .low) in
+      v ∙ all-skip (indexTest b m d) (r - i) (pageWords b) i (omega (arith, s .low, s .high)) (row-passes b m d (r - i) i (s .empty))
+      ∙ ap (λ (x : ℕ). all (indexTest b m d) (from (pageWords b - x) x)) e
 
 -- ---- a three of the list: u, v and z are the words with which it stands
 
 module _ (b : ℕ) (m : List ℕ) (d j : ℕ) {u v z : ℕ} (e : u ≡ word b m (list b m d) (2 + 6 * j) + 1) (q : v ≡ word b m (list b m d) (4 + 6 * j) + 1) (s : z ≡ word b m (list b m d) (6 + 6 * j) + 1) where
-  pub stands-as : (i : ℕ) → alike b m d u v z i ≡ stands b m d j i
-  unfolding alike stands
-  stands-as i = rw (e, q, s) refl
+  pub listed-as : (w x y : ℕ) → eqb w u && eqb x v && eqb y z ≡ listedAs b m d w x y j
+  unfolding listedAs
+  listed-as w x y = rw (e, q, s) refl
 
   pub three-as : {r : ℕ} → r ≡ length (keep (alike b m d u v z) (from (pageWords b) 0)) → eqb r 1 ≡ once (stands b m d j) (from (pageWords b) 0)
   unfolding once alike stands

@@ -5,8 +5,8 @@ use mathlib.Core.Bool.{Bool, true, false, cond, not, _&&_, _||_}
 use Prim.Native.Nat.{ℕ, zero, suc, _+_, _-_, _≤_, _<_}
 use native.Mathlib.Omega.{arith}
 use lib.Dec.{leb, eqb}
-use borrow.Author.Tests.{le-leb, lt-leb}
 use lib.ListN.{length}
+use borrow.Author.Tests.{le-leb, lt-leb}
 use Rattle.walk.specs.Finite.{from, from-in, in-from, all, all?, keep, once}
 use Rattle.forms.proofs.Laws.Tests.{yes, no, and-assoc, and-swap}
 
@@ -65,7 +65,7 @@ all-join f g [] = refl
 all-join f g (x ∷ xs) = ap (λ (t : Bool). f x && g x && t) (all-join f g xs) ∙ and-swap (f x) (g x) (all f xs) (all g xs)
 
 -- the first k, and the rest
-pub all-part : (f : ℕ → Bool) (k n i : ℕ) → all f (from (k + n) i) ≡ all f (from k i) && all f (from n (i + k))
+all-part : (f : ℕ → Bool) (k n i : ℕ) → all f (from (k + n) i) ≡ all f (from k i) && all f (from n (i + k))
 unfolding all from
 all-part f zero n i =
     let e : zero + n ≡ n = omega arith in
@@ -78,19 +78,14 @@ all-part f (suc k) n i =
     ∙ ap (λ (t : Bool). f i && t) (all-part f k n (suc i) ∙ ap (λ (x : ℕ). all f (from k (suc i)) && all f (from n x)) q)
     ∙ and-assoc (f i) (all f (from k (suc i))) (all f (from n (i + suc k)))
 
-all-next : (f : ℕ → Bool) (k n i : ℕ) → i + k ≤ n → all f (from (n - i) i) ≡ all f (from k i) && all f (from (n - (i + k)) (i + k))
-all-next f k n i h = let e : n - i ≡ k + (n - (i + k)) = omega arith in ap (λ (x : ℕ). all f (from x i)) e ∙ all-part f k (n - (i + k)) i
-
--- by k at a time: x is what the code was told of the k from i on
-module _ {o : Bool} (f : ℕ → Bool) (k n i : ℕ) where
-  pub all-go-by : {x : Bool} → i + k ≤ n → x ≡ all f (from k i) → not x ≡ false → o ≡ all f (from (n - i) i) → o ≡ all f (from (n - (i + k)) (i + k))
-  all-go-by h e t v = v ∙ all-next f k n i h ∙ rw (yes e t) refl
-
-  pub all-stop-by : {x : Bool} → i + k ≤ n → x ≡ all f (from k i) → not x ≡ true → o ≡ all f (from (n - i) i) → false ≡ o
-  all-stop-by h e t v = sym (v ∙ all-next f k n i h ∙ rw (no e t) refl)
+-- past k that pass
+pub all-skip : (f : ℕ → Bool) (k n i : ℕ) → i + k ≤ n → all f (from k i) ≡ true → all f (from (n - i) i) ≡ all f (from (n - (i + k)) (i + k))
+all-skip f k n i h e =
+    let q : n - i ≡ k + (n - (i + k)) = omega arith in
+    ap (λ (x : ℕ). all f (from x i)) q ∙ all-part f k (n - (i + k)) i ∙ rw e refl
 
 -- f is g from k on: the first k, and what g says of the rest
-pub all-rest : (f g : ℕ → Bool) (k n : ℕ) → k ≤ n → ((i : ℕ) → k ≤ i → i < n → f i ≡ g i) → all f (from n 0) ≡ all f (from k 0) && all (λ i. not (leb k i) || g i) (from n 0)
+all-rest : (f g : ℕ → Bool) (k n : ℕ) → k ≤ n → ((i : ℕ) → k ≤ i → i < n → f i ≡ g i) → all f (from n 0) ≡ all f (from k 0) && all (λ i. not (leb k i) || g i) (from n 0)
 all-rest f g k n h same =
     let e : n ≡ k + (n - k) = omega arith in
     let start : all rest (from k 0) ≡ true = all-yes rest k 0 (λ i a l. rw (lt-leb k i (omega arith)) refl) in

@@ -1,15 +1,15 @@
 -- `forms::root::root_descriptor` meets its contract. Assumes nothing.
-use mathlib.Core.Bool.{Bool, true, false}
 use mathlib.Core.Path.{_≡_, refl, sym, ap}
+use mathlib.Core.Bool.{Bool, true, false}
 use Prim.Native.Nat.{ℕ, _-_}
 use native.Mathlib.Omega.{arith}
 use lib.Dec.{eqb}
 use borrow.Author.Needs.{needs}
 use Rattle.walk.specs.Finite.{from, all}
-use Rattle.memory.proofs.Widths.{words-least}
 use Rattle.memory.specs.Format.{rootDescriptorWord}
 use Rattle.memory.specs.Geometry.{pageWords}
 use Rattle.memory.specs.Words.{word}
+use Rattle.memory.proofs.Widths.{words-least}
 use Rattle.forms.proofs.Laws.Formatted.{descriptor-zeros}
 use Rattle.forms.proofs.Laws.Loops.{all-go, all-stop, all-end, rest-stop, rest-end}
 use Rattle.forms.proofs.Laws.Tests.{equal, unequal}

@@ -1,6 +1,6 @@
 -- `forms::threes::standing` meets its contract. Assumes nothing.
-use mathlib.Core.Bool.{Bool, cond}
 use mathlib.Core.Path.{_≡_, refl, ap, _∙_}
+use mathlib.Core.Bool.{Bool, cond}
 use Prim.Native.Nat.{ℕ, _+_, _-_, _≤_}
 use native.Mathlib.Omega.{arith}
 use lib.ListN.{length}
@@ -8,6 +8,7 @@ use borrow.Author.Needs.{needs}
 use Rattle.walk.specs.Finite.{from, keep}
 use Rattle.forms.specs.Asked.{alike}
 use Rattle.forms.proofs.Laws.Loops.{bit-le, found-start, found-more, found-count}
+use Rattle.forms.proofs.Laws.Asked.{alike-as}
 use Rattle.forms.proofs.threes.standing.Statement.{statement}
 use Rattle.forms.proofs.threes.standing.Tie as tie
 
@@ -23,16 +24,19 @@ page-words-requires : tie.Need-page-words-requires Inv-loop μ-loop
 page-words-requires c κs = search needs
 
 loop-holds : tie.Need-loop-holds Inv-loop μ-loop
-loop-holds c = (omega arith, omega arith, found-start (alike (c .before .before .args .b) (c .before .before .args .m .now) (c .before .before .args .o .descriptor .0) (c .before .before .args .t .0) (c .before .before .args .t .1) (c .before .before .args .t .2)) (c .page-words .result) 0 refl)
+loop-holds c = let s = c .before .before .args in (omega arith, omega arith, found-start (alike (s .b) (s .m .now) (s .o .descriptor .0) (s .t .0) (s .t .1) (s .t .2)) (c .page-words .result) 0 refl)
 
-are-at-requires : tie.Need-are-at-requires Inv-loop μ-loop
-are-at-requires c κs = (c .before .before .before .before .pre .0, (c .before .before .before .before .pre .1, omega arith))
+words-at-requires : tie.Need-words-at-requires Inv-loop μ-loop
+words-at-requires c κs = (c .before .before .before .before .pre .0, (c .before .before .before .before .pre .1, omega arith))
+
+same-requires : tie.Need-same-requires Inv-loop μ-loop
+same-requires c κs = search needs
 
 bit-requires : tie.Need-bit-requires Inv-loop μ-loop
 bit-requires c κs = search needs
 
 add-found : tie.Need-add-found Inv-loop μ-loop
-add-found c = omega (arith, c .bit .ensures, bit-le (c .before .are-at .result))
+add-found c = omega (arith, c .bit .ensures, bit-le (c .before .same .result))
 
 add-i : tie.Need-add-i Inv-loop μ-loop
 add-i c = search needs
@@ -42,14 +46,17 @@ loop-less c = search needs
 
 loop-again : tie.Need-loop-again Inv-loop μ-loop
 loop-again c =
-    let p = c .before .before .before .loop in
-    let f = alike (c .before .before .before .before .before .before .args .b) (c .before .before .before .before .before .before .args .m .now) (c .before .before .before .before .before .before .args .o .descriptor .0) (c .before .before .before .before .before .before .args .t .0) (c .before .before .before .before .before .before .args .t .1) (c .before .before .before .before .before .before .args .t .2) in
-    let e : c .bit .result ≡ cond (f (p .i)) 1 0 = c .bit .ensures ∙ ap (λ (x : Bool). cond x 1 0) (c .before .are-at .ensures) in
-    (omega (arith, bit-le (f (p .i))), omega arith, found-more f (c .before .before .before .before .page-words .result) (p .i) (p .found) (omega arith) e (p .inv .2))
+    let s = c .before .before .before .before .before .before .before .args in
+    let p = c .before .before .before .before .loop in
+    let f = alike (s .b) (s .m .now) (s .o .descriptor .0) (s .t .0) (s .t .1) (s .t .2) in
+    let q : c .before .same .result ≡ f (p .i) = c .before .same .ensures ∙ alike-as (s .b) (s .m .now) (s .o .descriptor .0) (p .i) (c .before .before .words-at .ensures) (s .t .0) (s .t .1) (s .t .2) in
+    let e : c .bit .result ≡ cond (f (p .i)) 1 0 = c .bit .ensures ∙ ap (λ (x : Bool). cond x 1 0) q in
+    (omega (arith, bit-le (f (p .i))), omega arith, found-more f (c .before .before .before .before .before .page-words .result) (p .i) (p .found) (omega arith) e (p .inv .2))
 
 returns : tie.Need-returns Inv-loop μ-loop
 returns c =
-    let f = alike (c .before .before .before .before .args .b) (c .before .before .before .before .args .m .now) (c .before .before .before .before .args .o .descriptor .0) (c .before .before .before .before .args .t .0) (c .before .before .before .before .args .t .1) (c .before .before .before .before .args .t .2) in
+    let s = c .before .before .before .before .args in
+    let f = alike (s .b) (s .m .now) (s .o .descriptor .0) (s .t .0) (s .t .1) (s .t .2) in
     found-count f (c .before .before .page-words .result) (c .before .loop .i) (c .before .loop .found) (omega arith) (c .before .loop .inv .2) ∙ ap (λ (n : ℕ). length (keep f (from n 0))) (c .before .before .page-words .ensures .0)
 
 pub standing-spec : {M : Type 1} → statement M
@@ -60,7 +67,8 @@ standing-spec =
     μ-loop
     page-words-requires
     loop-holds
-    are-at-requires
+    words-at-requires
+    same-requires
     bit-requires
     add-found
     add-i

@@ -1,6 +1,6 @@
 -- `forms::words::zeros` meets its contract. Assumes nothing.
-use mathlib.Core.Bool.{_&&_}
 use mathlib.Core.Path.{_≡_, refl}
+use mathlib.Core.Bool.{_&&_}
 use Prim.Native.Nat.{_-_}
 use native.Mathlib.Omega.{arith}
 use lib.Dec.{eqb}
