@@ -1,6 +1,6 @@
 //! Timing of calls: the least of many single calls, the versions in turn, so that other work on the machine falls out.
 
-use crate::call::Call;
+use crate::call::{Call, JUDGE};
 use crate::ordinary::Answer;
 use std::hint::black_box;
 use std::time::{Duration, Instant};
@@ -103,13 +103,10 @@ impl Bench {
     }
 }
 
-/// The proved version's time on one memory, roughly.
-pub fn rough(call: Call, memory: &[u32]) -> Duration {
-    let mut words = memory.to_vec();
-    let one = |words: &mut [u32]| {
-        let start = Instant::now();
-        let _ = black_box(call.proved(black_box(words)));
-        start.elapsed()
-    };
-    (0..TURN).map(|_| one(&mut words)).min().unwrap_or_default()
+/// The judge on one memory, at a short look.
+pub fn rough(memory: &[u32]) -> Times {
+    let mut timed = Timed::new(JUDGE, memory);
+    (0..2).for_each(|_| timed.turns());
+    let [proved, ordinary] = timed.least.map(|least| least.as_nanos().max(1) as f64);
+    Times { proved, ordinary }
 }

@@ -6,7 +6,7 @@ use std::time::Duration;
 #[test]
 fn tables() {
     let report = Report::measure(Duration::ZERO);
-    assert_eq!(report.calls.len(), 8);
+    assert_eq!(report.calls.len(), 9);
     for table in &report.calls {
         assert_eq!(table.rows.len(), 14, "{}", table.title);
         for row in &table.rows {

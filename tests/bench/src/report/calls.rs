@@ -1,13 +1,10 @@
 //! Format and the twelve calls on the tree of a scenario.
 
-use super::{ratio, whole, Bar};
+use super::{ratio, whole};
 use crate::call::{JUDGE, NAMES};
 use crate::measure::{Bench, Row};
 use crate::scenario::{kernel_pages, mappings, Scenario};
 use crate::table::Table;
-
-/// "no call slower than 2.0 times the ordinary Rust version at any size"
-const MOST: f64 = 2.0;
 
 pub struct Calls {
     title: String,
@@ -92,10 +89,10 @@ pub fn summary(all: &[Calls], bench: &Bench) -> Table {
     table
 }
 
-pub fn bar(all: &[Calls], bench: &Bench) -> Bar {
-    let figures = all.iter().map(|calls| {
+/// The slowest call of each scenario.
+pub fn figures<'a>(all: &'a [Calls], bench: &'a Bench) -> impl Iterator<Item = (f64, String)> + 'a {
+    all.iter().map(|calls| {
         let (most, name) = calls.slowest(bench);
         (most, format!("{}: {name}", calls.title))
-    });
-    Bar::new("a call over the ordinary version's", MOST, figures)
+    })
 }

@@ -15,7 +15,7 @@ type Recipe = fn(usize) -> Scenario;
 /// The same shape at each size: kernel pages grow with the memory.
 const RECIPES: [Recipe; 3] = [deep, broad, bare];
 /// Few kernel pages and many mappings, more of them the more pages there are.
-const OTHERS: [Recipe; 3] = [deep_few_tables, broad_few_tables, one_child];
+const OTHERS: [Recipe; 3] = [one_child, deep_few_tables, broad_few_tables];
 
 /// The judge on one memory.
 struct Size {

@@ -3,6 +3,7 @@
 mod calls;
 mod damaged;
 mod growth;
+mod guided;
 mod wiping;
 
 use crate::measure::Bench;
@@ -11,8 +12,12 @@ use crate::table::Table;
 use calls::Calls;
 use damaged::Damages;
 use growth::Growth;
+use guided::Guided;
 use std::time::Duration;
 use wiping::Wiping;
+
+/// "no call slower than 2.0 times the ordinary Rust version at any size"
+const MOST: f64 = 2.0;
 
 /// A figure that may not be above its bar, and where it was found.
 pub struct Bar {
@@ -57,6 +62,7 @@ impl Report {
     pub fn measure(time: Duration) -> Report {
         let scenarios = [
             one_child(16),
+            one_child(256),
             deep(73),
             broad(73),
             deep(256),
@@ -68,15 +74,17 @@ impl Report {
         let mut bench = Bench::default();
         let calls: Vec<_> = scenarios.iter().map(|scenario| Calls::of(scenario, &mut bench)).collect();
         let growth = Growth::new(&mut bench);
-        let wider = [one_child(73), one_child(256)];
-        let wiping: Vec<_> = scenarios.iter().chain(&wider).map(|scenario| Wiping::of(scenario, &mut bench)).collect();
+        let guided = Guided::new(&mut bench);
+        let wiping: Vec<_> = scenarios.iter().map(|scenario| Wiping::of(scenario, &mut bench)).collect();
         let damages: Vec<_> = scenarios.iter().map(|scenario| Damages::of(scenario, &mut bench)).collect();
         bench.run(time);
         let mut short = vec![calls::summary(&calls, &bench)];
+        short.push(guided.table(&bench));
         short.extend(growth.tables(&bench));
         short.push(wiping::table(&wiping, &bench));
         short.push(damaged::table(&damages, &bench));
-        let mut bars = vec![calls::bar(&calls, &bench)];
+        let figures = calls::figures(&calls, &bench).chain(guided.figures(&bench));
+        let mut bars = vec![Bar::new("a call over the ordinary version's", MOST, figures)];
         bars.extend(growth.bars(&bench));
         bars.push(damaged::bar(&damages, &bench));
         short.push(verdicts(&bars));
