@@ -50,8 +50,10 @@ fn replay(script: &[u8]) -> String {
 fn as_the_replay_program() {
     let repository = Path::new(env!("CARGO_MANIFEST_DIR")).join("../..");
     let mut text = String::new();
-    for script in ["morning.script", "deep.script", "eleventh.script", "refusals.script"] {
-        text += &format!("{script}\n{}", replay(&fs::read(repository.join("examples").join(script)).unwrap()));
+    for name in ["morning", "deep", "eleventh", "refusals"] {
+        let script = fs::read(repository.join("examples").join(name).with_extension("script")).unwrap();
+        text += &format!("{name} same\n{}", replay(&script));
     }
-    assert_eq!(text, fs::read_to_string(repository.join("crates/examples/stdout")).unwrap());
+    // What the program `examples` writes begins with their transcripts.
+    assert!(fs::read_to_string(repository.join("crates/examples/stdout")).unwrap().starts_with(&text));
 }
