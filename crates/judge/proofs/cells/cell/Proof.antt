@@ -1,3 +1,4 @@
+-- `judge::cells::cell` meets its contract. Assumes nothing.
 use Rattle.forms.proofs.Laws.Tests.{yes, no, unequal, equal}
 use mathlib.Core.Path.{refl, ap, _∙_}
 use mathlib.Core.Bool.{Bool, _||_}
@@ -7,43 +8,33 @@ use borrow.Author.Needs.{needs}
 use Rattle.judge.proofs.cells.cell.Statement.{statement}
 use Rattle.judge.proofs.cells.cell.Tie as tie
 
--- src/cells.rt:164:13
 returns : tie.Need-returns
 returns c = rw (equal refl refl (c .before .if1 .taken), unequal refl refl (c .if2 .taken))
 
--- src/cells.rt:166:9
 returns-2 : tie.Need-returns-2
 returns-2 c = rw (equal refl refl (c .before .if1 .taken), equal refl refl (c .if2 .left))
 
--- src/cells.rt:168:9
 entry-test-requires : tie.Need-entry-test-requires
 entry-test-requires c κs = search needs
 
--- src/cells.rt:169:9
 returns-3 : tie.Need-returns-3
 returns-3 c = rw (unequal refl refl (c .before .before .if1 .left), no (c .before .entry-test .ensures) (c .if3 .taken))
 
--- src/cells.rt:171:9
 virtual-address-requires : tie.Need-virtual-address-requires
 virtual-address-requires c κs = search needs
 
--- src/cells.rt:172:9
 returns-4 : tie.Need-returns-4
 returns-4 c = rw (unequal refl refl (c .before .before .before .before .if1 .left), yes (c .before .before .before .entry-test .ensures) (c .before .before .if3 .left), no (c .before .virtual-address .ensures) (c .if4 .taken))
 
--- src/cells.rt:174:9
 shadow1-word-requires : tie.Need-shadow1-word-requires
 shadow1-word-requires c κs = (c .before .before .before .before .before .before .pre .0, (c .before .before .before .before .before .before .pre .1 .0, c .before .before .before .before .before .before .pre .1 .1 .1))
 
--- src/cells.rt:175:9
 returns-5 : tie.Need-returns-5
 returns-5 c = rw (unequal refl refl (c .before .before .before .before .before .before .if1 .left), yes (c .before .before .before .before .before .entry-test .ensures) (c .before .before .before .before .if3 .left), yes (c .before .before .before .virtual-address .ensures) (c .before .before .if4 .left), no (c .before .shadow1-word .ensures) (c .if5 .taken))
 
--- src/cells.rt:177:5
 origin-requires : tie.Need-origin-requires
 origin-requires c κs = search needs
 
--- src/cells.rt:145:1
 returns-6 : tie.Need-returns-6
 returns-6 c =
     let s = c .before .before .before .before .before .before .before .before .before .args in

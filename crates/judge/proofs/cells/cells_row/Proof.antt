@@ -1,3 +1,4 @@
+-- `judge::cells::cells_row` meets its contract. Assumes nothing.
 use Prim.Native.Nat.{_+_, _-_}
 use mathlib.Core.Path.{_≡_, refl, sym, _∙_}
 use native.Mathlib.Omega.{arith}
@@ -22,79 +23,61 @@ Inv-loop b m d p v pt s1 s2 n end to₀ j₀ to j = (run (asking (λ k. cellWord
 abbrev μ-loop : tie.MeasureT-loop
 μ-loop b m d p v pt s1 s2 n end to₀ j₀ to j = pageWords b - j
 
--- src/cells.rt:221:29
 least-requires : tie.Need-least-requires Inv-loop μ-loop
 least-requires c κs = search needs
 
--- src/cells.rt:221:13
 least-requires-2 : tie.Need-least-requires-2 Inv-loop μ-loop
 least-requires-2 c κs = search needs
 
--- src/cells.rt:222:15
 page-words-requires : tie.Need-page-words-requires Inv-loop μ-loop
 page-words-requires c κs = search needs
 
--- src/cells.rt:222:15
 cast-end : tie.Need-cast-end Inv-loop μ-loop
 cast-end c = search needs
 
--- src/cells.rt:224:17
 next-cell-requires : tie.Need-next-cell-requires Inv-loop μ-loop
 next-cell-requires c κs = search needs
 
--- src/cells.rt:225:5
 loop-holds : tie.Need-loop-holds Inv-loop μ-loop
 loop-holds c =
     let s = c .before .before .before .before .before .before .before .before .args in
     (run-start (asking (λ k. cellWords (s .b) (s .m .now) (s .d .0) (address (s .b) (s .v .0 + k)) (getD (s .pt .now) k 0) (getD (s .s1 .now) k 0) (getD (s .s2 .now) k 0))) (pageWords (s .b)) true ∙ cells-on (s .b) (s .m .now) (s .d .0) (s .v .0) (s .pt .now) (s .s1 .now) (s .s2 .now) (pageWords (s .b)) (c .before .before .least2 .result) 0 (c .next-cell .ensures), refl)
 
--- src/cells.rt:226:17
 read-requires : tie.Need-read-requires Inv-loop μ-loop
 read-requires c κs = search needs
 
--- src/cells.rt:232:32
 cast-t20 : tie.Need-cast-t20 Inv-loop μ-loop
 cast-t20 c = search needs
 
--- src/cells.rt:232:25
 add-t21 : tie.Need-add-t21 Inv-loop μ-loop
 add-t21 c = omega (arith, c .before .before .before .before .before .before .before .before .before .before .before .before .pre .1 .0, most-pages (c .before .before .before .before .before .before .before .before .before .before .before .before .args .b) (c .before .before .before .before .before .before .before .before .before .before .before .before .pre .0 .1), c .before .before .before .before .before .page-words .ensures .0)
 
--- src/cells.rt:233:13
 read-requires-2 : tie.Need-read-requires-2 Inv-loop μ-loop
 read-requires-2 c κs = search needs
 
--- src/cells.rt:235:13
 read-requires-3 : tie.Need-read-requires-3 Inv-loop μ-loop
 read-requires-3 c κs = search needs
 
--- src/cells.rt:227:13
 cell-requires : tie.Need-cell-requires Inv-loop μ-loop
 cell-requires c κs = (c .before .before .before .before .before .before .before .before .before .before .before .before .before .before .pre .0, (omega (arith, c .before .before .before .before .before .before .before .before .before .before .before .before .before .before .pre .1 .0, c .before .before .before .before .before .before .before .page-words .ensures .0), (c .before .before .before .before .before .before .before .before .before .before .before .before .before .before .pre .1 .1, c .before .before .before .before .before .loop .inv .1)))
 
--- src/cells.rt:238:13
 returns : tie.Need-returns Inv-loop μ-loop
 returns c =
     let s = c .before .before .before .before .before .before .before .before .before .before .before .before .before .before .before .before .args in
     ask-stop (λ k. cellWords (s .b) (s .m .now) (s .d .0) (address (s .b) (s .v .0 + k)) (getD (s .pt .now) k 0) (getD (s .s1 .now) k 0) (getD (s .s2 .now) k 0)) (pageWords (s .b)) (c .before .before .before .before .before .before .before .loop .j) (omega (arith, c .before .before .before .before .before .before .before .before .before .page-words .ensures .0)) (c .before .cell .ensures ∙ cell-words (s .b) (s .m .now) (s .d .0) (address (s .b) (s .v .0 + c .before .before .before .before .before .before .before .loop .j)) (c .before .before .before .read2 .ensures) (c .before .before .before .before .before .read .ensures) (c .before .before .read3 .ensures)) (c .if1 .taken) (c .before .before .before .before .before .before .before .loop .inv .0)
 
--- src/cells.rt:240:14
 last-lent-requires : tie.Need-last-lent-requires Inv-loop μ-loop
 last-lent-requires c κs = search needs
 
--- src/cells.rt:241:38
 add-next-cell : tie.Need-add-next-cell Inv-loop μ-loop
 add-next-cell c = search needs
 
--- src/cells.rt:241:13
 next-cell-requires-2 : tie.Need-next-cell-requires-2 Inv-loop μ-loop
 next-cell-requires-2 c κs = search needs
 
--- src/cells.rt:225:5
 loop-less : tie.Need-loop-less Inv-loop μ-loop
 loop-less c = omega (arith, c .before .before .before .before .before .before .before .before .before .before .before .page-words .ensures .0, sought (anyUsed (c .before .before .before .before .before .before .before .before .before .before .before .before .before .before .before .before .before .before .args .pt .now) (c .before .before .before .before .before .before .before .before .before .before .before .before .before .before .before .before .before .before .args .s1 .now) (c .before .before .before .before .before .before .before .before .before .before .before .before .before .before .before .before .before .before .args .s2 .now)) (c .before .before .before .before .before .before .before .before .before .before .before .before .least2 .result - (c .before .before .before .before .before .before .before .before .before .loop .j + 1)) (c .before .before .before .before .before .before .before .before .before .loop .j + 1) (c .next-cell2 .ensures) .low)
 
--- src/cells.rt:225:5
 loop-again : tie.Need-loop-again Inv-loop μ-loop
 loop-again c =
     let s = c .before .before .before .before .before .before .before .before .before .before .before .before .before .before .before .before .before .before .args in (
@@ -103,7 +86,6 @@ loop-again c =
       passed-next (s .b) (s .m .now) (s .d .0) (address (s .b) (s .v .0 + c .before .before .before .before .before .before .before .before .before .loop .j)) (c .before .before .before .before .before .read2 .result) (c .before .before .before .before .before .before .before .read .result) (c .before .before .before .before .read3 .result) (c .before .before .before .before .before .before .before .before .before .loop .to) (c .before .before .before .before .before .before .before .before .before .loop .inv .1) (c .before .before .before .cell .ensures) (c .before .before .if1 .left) (c .before .last-lent .ensures),
     )
 
--- src/cells.rt:202:1
 returns-2 : tie.Need-returns-2 Inv-loop μ-loop
 returns-2 c =
     let s = c .before .before .before .before .before .before .before .before .before .before .args in

@@ -1,3 +1,4 @@
+-- `judge::cells::cells_test` meets its contract. Assumes nothing.
 use Prim.Native.Nat.{ℕ, _+_, _-_, _*_, _≤_, _<_}
 use mathlib.Core.Path.{_≡_, sym, ap, _∙_}
 use native.Mathlib.Omega.{arith}
@@ -26,120 +27,94 @@ Inv-loop b m d p dir sh1 sh2 i₀ i = (i ≤ length dir) × (i < length dir → 
 abbrev μ-loop : tie.MeasureT-loop
 μ-loop b m d p dir sh1 sh2 i₀ i = length dir - i
 
--- src/cells.rt:251:13
 lender-of-requires : tie.Need-lender-of-requires Inv-loop μ-loop
 lender-of-requires c κs = search needs
 
--- src/cells.rt:252:30
 directory-requires : tie.Need-directory-requires Inv-loop μ-loop
 directory-requires c κs = search needs
 
--- src/cells.rt:252:15
 words-of-requires : tie.Need-words-of-requires Inv-loop μ-loop
 words-of-requires c κs = search needs
 
--- src/cells.rt:253:30
 shadow1-requires : tie.Need-shadow1-requires Inv-loop μ-loop
 shadow1-requires c κs = search needs
 
--- src/cells.rt:253:15
 words-of-requires-2 : tie.Need-words-of-requires-2 Inv-loop μ-loop
 words-of-requires-2 c κs = search needs
 
--- src/cells.rt:254:30
 shadow2-requires : tie.Need-shadow2-requires Inv-loop μ-loop
 shadow2-requires c κs = search needs
 
--- src/cells.rt:254:15
 words-of-requires-3 : tie.Need-words-of-requires-3 Inv-loop μ-loop
 words-of-requires-3 c κs = search needs
 
--- src/cells.rt:255:17
 next-word-requires : tie.Need-next-word-requires Inv-loop μ-loop
 next-word-requires c κs = search needs
 
--- src/cells.rt:256:5
 loop-holds : tie.Need-loop-holds Inv-loop μ-loop
 loop-holds c =
     let s = c .before .before .before .before .before .before .before .before .before .args in
     let dir = c .before .before .before .before .before .words-of .result .now in
     (next-high (used dir) (length dir) 0 (omega arith) (c .next-word .ensures), next-here (used dir) (length dir) 0 (omega arith) (c .next-word .ensures), λ e. rows-first (s .b) (s .m .now) (asking (cell (s .b) (s .m .now) (s .d .0))) (s .d .0) dir e true (cells-run (s .b) (s .m .now) (s .d .0)) (c .next-word .ensures))
 
--- src/cells.rt:257:33
 mul-table-of : tie.Need-mul-table-of Inv-loop μ-loop
 mul-table-of c = search needs
 
--- src/cells.rt:257:33
 shared-slice-read-table-of : tie.Need-shared-slice-read-table-of Inv-loop μ-loop
 shared-slice-read-table-of c = search needs
 
--- src/cells.rt:257:18
 table-of-requires : tie.Need-table-of-requires Inv-loop μ-loop
 table-of-requires c κs = search needs
 
--- src/cells.rt:258:33
 read-requires : tie.Need-read-requires Inv-loop μ-loop
 read-requires c κs = search needs
 
--- src/cells.rt:258:18
 table-of-requires-2 : tie.Need-table-of-requires-2 Inv-loop μ-loop
 table-of-requires-2 c κs = search needs
 
--- src/cells.rt:259:33
 read-requires-2 : tie.Need-read-requires-2 Inv-loop μ-loop
 read-requires-2 c κs = search needs
 
--- src/cells.rt:259:18
 table-of-requires-3 : tie.Need-table-of-requires-3 Inv-loop μ-loop
 table-of-requires-3 c κs = search needs
 
--- src/cells.rt:265:26
 cast-t16 : tie.Need-cast-t16 Inv-loop μ-loop
 cast-t16 c = omega (arith, dir-short (c .before .before .before .before .before .before .before .before .before .before .before .before .before .before .before .before .before .args .b) (c .before .before .before .before .before .before .before .before .before .before .before .before .before .before .before .before .before .args .m .now) (c .before .before .before .before .before .before .before .before .before .before .before .before .before .before .directory .result .0) (c .before .before .before .before .before .before .before .before .before .before .before .before .before .words-of .ensures), words-most (c .before .before .before .before .before .before .before .before .before .before .before .before .before .before .before .before .before .args .b) (c .before .before .before .before .before .before .before .before .before .before .before .before .before .before .before .before .before .pre .1), c .before .before .before .before .before .before .loop-test .taken)
 
--- src/cells.rt:265:38
 page-words-requires : tie.Need-page-words-requires Inv-loop μ-loop
 page-words-requires c κs = c .before .before .before .before .before .before .before .before .before .before .before .before .before .before .before .before .before .pre
 
--- src/cells.rt:265:25
 mul-t18 : tie.Need-mul-t18 Inv-loop μ-loop
 mul-t18 c =
     let e : c .before .before .before .before .before .before .before .before .loop .i * c .page-words .result ≡ c .before .before .before .before .before .before .before .before .loop .i * pageWords (c .before .before .before .before .before .before .before .before .before .before .before .before .before .before .before .before .before .before .args .b) = rw (c .page-words .ensures .0) in
     omega (arith, e, row-in (c .before .before .before .before .before .before .before .before .before .before .before .before .before .before .before .before .before .before .args .b) (c .before .before .before .before .before .before .before .before .loop .i) (omega (arith, c .before .before .before .before .before .before .before .loop-test .taken, dir-short (c .before .before .before .before .before .before .before .before .before .before .before .before .before .before .before .before .before .before .args .b) (c .before .before .before .before .before .before .before .before .before .before .before .before .before .before .before .before .before .before .args .m .now) (c .before .before .before .before .before .before .before .before .before .before .before .before .before .before .before .directory .result .0) (c .before .before .before .before .before .before .before .before .before .before .before .before .before .before .words-of .ensures))), most-pages (c .before .before .before .before .before .before .before .before .before .before .before .before .before .before .before .before .before .before .args .b) (c .before .before .before .before .before .before .before .before .before .before .before .before .before .before .before .before .before .before .pre .1))
 
--- src/cells.rt:260:13
 cells-row-requires : tie.Need-cells-row-requires Inv-loop μ-loop
 cells-row-requires c κs =
     let e : c .before .before .before .before .before .before .before .before .loop .i * c .page-words .result ≡ c .before .before .before .before .before .before .before .before .loop .i * pageWords (c .before .before .before .before .before .before .before .before .before .before .before .before .before .before .before .before .before .before .args .b) = rw (c .page-words .ensures .0) in
     (c .before .before .before .before .before .before .before .before .before .before .before .before .before .before .before .before .before .before .pre, (omega (arith, e, row-in (c .before .before .before .before .before .before .before .before .before .before .before .before .before .before .before .before .before .before .args .b) (c .before .before .before .before .before .before .before .before .loop .i) (omega (arith, c .before .before .before .before .before .before .before .loop-test .taken, dir-short (c .before .before .before .before .before .before .before .before .before .before .before .before .before .before .before .before .before .before .args .b) (c .before .before .before .before .before .before .before .before .before .before .before .before .before .before .before .before .before .before .args .m .now) (c .before .before .before .before .before .before .before .before .before .before .before .before .before .before .before .directory .result .0) (c .before .before .before .before .before .before .before .before .before .before .before .before .before .before .words-of .ensures)))), c .before .before .before .before .before .before .before .before .before .before .before .before .before .before .before .before .lender-of .ensures))
 
--- src/cells.rt:270:13
 returns : tie.Need-returns Inv-loop μ-loop
 returns c =
     let s = c .before .before .before .before .before .before .before .before .before .before .before .before .before .before .before .before .before .before .before .before .args in
     let e = c .before .before .before .before .before .before .before .before .before .before .before .before .before .before .before .before .words-of .ensures ∙ ap (page (s .b) (s .m .now)) (c .before .before .before .before .before .before .before .before .before .before .before .before .before .before .before .before .before .directory .ensures) in
     asks-stop (s .b) (s .m .now) (cell (s .b) (s .m .now) (s .d .0)) (s .d .0) (c .before .before .before .before .before .before .before .before .before .before .before .before .before .before .before .before .words-of .result .now) e (c .before .before .before .before .before .before .before .before .before .loop-test .taken) (cells-row (s .b) (s .m .now) (s .d .0) (c .before .before .before .before .before .before .before .before .before .before .loop .i) e (c .before .before .before .before .before .before .before .before .before .loop-test .taken) (c .before .before .before .before .before .before .before .before .before .before .loop .inv .1 (c .before .before .before .before .before .before .before .before .before .loop-test .taken)) (c .before .before .before .before .before .before .before .table-of .ensures) (c .before .before .before .before .before .before .before .before .before .before .before .before .before .before .words-of2 .ensures ∙ ap (page (s .b) (s .m .now)) (c .before .before .before .before .before .before .before .before .before .before .before .before .before .before .before .shadow1 .ensures)) (c .before .before .before .before .before .before .read .ensures) (c .before .before .before .before .before .table-of2 .ensures) (c .before .before .before .before .before .before .before .before .before .before .before .before .words-of3 .ensures ∙ ap (page (s .b) (s .m .now)) (c .before .before .before .before .before .before .before .before .before .before .before .before .before .shadow2 .ensures)) (c .before .before .before .before .read2 .ensures) (c .before .before .before .table-of3 .ensures) (ap (λ (x : ℕ). c .before .before .before .before .before .before .before .before .before .before .loop .i * x) (c .before .before .page-words .ensures .0)) (c .before .cells-row .ensures)) (c .if1 .taken) (c .before .before .before .before .before .before .before .before .before .before .loop .inv .2 e)
 
--- src/cells.rt:272:28
 add-next-word : tie.Need-add-next-word Inv-loop μ-loop
 add-next-word c = omega (arith, dir-short (c .before .before .before .before .before .before .before .before .before .before .before .before .before .before .before .before .before .before .before .before .args .b) (c .before .before .before .before .before .before .before .before .before .before .before .before .before .before .before .before .before .before .before .before .args .m .now) (c .before .before .before .before .before .before .before .before .before .before .before .before .before .before .before .before .before .directory .result .0) (c .before .before .before .before .before .before .before .before .before .before .before .before .before .before .before .before .words-of .ensures), words-most (c .before .before .before .before .before .before .before .before .before .before .before .before .before .before .before .before .before .before .before .before .args .b) (c .before .before .before .before .before .before .before .before .before .before .before .before .before .before .before .before .before .before .before .before .pre .1), c .before .before .before .before .before .before .before .before .before .loop-test .taken)
 
--- src/cells.rt:272:13
 next-word-requires-2 : tie.Need-next-word-requires-2 Inv-loop μ-loop
 next-word-requires-2 c κs = search needs
 
--- src/cells.rt:256:5
 loop-less : tie.Need-loop-less Inv-loop μ-loop
 loop-less c = omega (arith, c .before .before .before .before .before .before .before .before .before .before .loop-test .taken, next-low (used (c .before .before .before .before .before .before .before .before .before .before .before .before .before .before .before .before .before .words-of .result .now)) (length (c .before .before .before .before .before .before .before .before .before .before .before .before .before .before .before .before .before .words-of .result .now)) (c .before .before .before .before .before .before .before .before .before .before .before .loop .i + 1) (c .next-word2 .ensures))
 
--- src/cells.rt:256:5
 loop-again : tie.Need-loop-again Inv-loop μ-loop
 loop-again c =
     let s = c .before .before .before .before .before .before .before .before .before .before .before .before .before .before .before .before .before .before .before .before .before .args in
     let dir = c .before .before .before .before .before .before .before .before .before .before .before .before .before .before .before .before .before .words-of .result .now in
     (next-high (used dir) (length dir) (c .before .before .before .before .before .before .before .before .before .before .before .loop .i + 1) (omega (arith, c .before .before .before .before .before .before .before .before .before .before .loop-test .taken)) (c .next-word2 .ensures), next-here (used dir) (length dir) (c .before .before .before .before .before .before .before .before .before .before .before .loop .i + 1) (omega (arith, c .before .before .before .before .before .before .before .before .before .before .loop-test .taken)) (c .next-word2 .ensures), λ e. asks-next (s .b) (s .m .now) (cell (s .b) (s .m .now) (s .d .0)) (s .d .0) dir e (c .before .before .before .before .before .before .before .before .before .before .loop-test .taken) (cells-row (s .b) (s .m .now) (s .d .0) (c .before .before .before .before .before .before .before .before .before .before .before .loop .i) e (c .before .before .before .before .before .before .before .before .before .before .loop-test .taken) (c .before .before .before .before .before .before .before .before .before .before .before .loop .inv .1 (c .before .before .before .before .before .before .before .before .before .before .loop-test .taken)) (c .before .before .before .before .before .before .before .before .table-of .ensures) (c .before .before .before .before .before .before .before .before .before .before .before .before .before .before .before .words-of2 .ensures ∙ ap (page (s .b) (s .m .now)) (c .before .before .before .before .before .before .before .before .before .before .before .before .before .before .before .before .shadow1 .ensures)) (c .before .before .before .before .before .before .before .read .ensures) (c .before .before .before .before .before .before .table-of2 .ensures) (c .before .before .before .before .before .before .before .before .before .before .before .before .before .words-of3 .ensures ∙ ap (page (s .b) (s .m .now)) (c .before .before .before .before .before .before .before .before .before .before .before .before .before .before .shadow2 .ensures)) (c .before .before .before .before .before .read2 .ensures) (c .before .before .before .before .table-of3 .ensures) (ap (λ (x : ℕ). c .before .before .before .before .before .before .before .before .before .before .before .loop .i * x) (c .before .before .before .page-words .ensures .0)) (c .before .before .cells-row .ensures)) (c .before .if1 .left) (c .next-word2 .ensures) (c .before .before .before .before .before .before .before .before .before .before .before .loop .inv .2 e))
 
--- src/cells.rt:247:1
 returns-2 : tie.Need-returns-2 Inv-loop μ-loop
 returns-2 c =
     let s = c .before .before .before .before .before .before .before .before .before .before .before .args in

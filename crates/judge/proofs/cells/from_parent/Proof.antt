@@ -1,3 +1,4 @@
+-- `judge::cells::from_parent` meets its contract. Assumes nothing.
 use Rattle.forms.proofs.Laws.Tests.{yes, no, unequal, equal, same-eqb}
 use Rattle.memory.specs.Entry.{holds}
 use Rattle.memory.specs.Partition.{tableWord}
@@ -7,71 +8,57 @@ use borrow.Author.Needs.{needs}
 use Rattle.judge.proofs.cells.from_parent.Statement.{statement}
 use Rattle.judge.proofs.cells.from_parent.Tie as tie
 
--- src/cells.rt:67:13
 virtual-page-requires : tie.Need-virtual-page-requires
 virtual-page-requires c κs = search needs
 
--- src/cells.rt:68:13
 table-word-requires : tie.Need-table-word-requires
 table-word-requires c κs = search needs
 
--- src/cells.rt:70:9
 returns : tie.Need-returns
 returns c =
     let s = c .before .before .before .before .args in
     let e = c .before .table-word .ensures ∙ ap (tableWord (s .b) (s .m .now) (s .p .directory .0)) (c .before .before .virtual-page .ensures) in
     rw (← e, equal refl refl (c .if1 .taken))
 
--- src/cells.rt:72:8
 page-of-requires : tie.Need-page-of-requires
 page-of-requires c κs = search needs
 
--- src/cells.rt:72:27
 page-of-requires-2 : tie.Need-page-of-requires-2
 page-of-requires-2 c κs = search needs
 
--- src/cells.rt:73:9
 returns-2 : tie.Need-returns-2
 returns-2 c =
     let s = c .before .before .before .before .before .before .before .before .before .args in
     let e = c .before .before .before .before .before .before .table-word .ensures ∙ ap (tableWord (s .b) (s .m .now) (s .p .directory .0)) (c .before .before .before .before .before .before .before .virtual-page .ensures) in
     rw (← e, unequal refl refl (c .before .before .before .before .before .if1 .left), unequal (c .before .before .before .before .page-of .ensures) (c .before .before .before .page-of2 .ensures) (c .if2 .taken))
 
--- src/cells.rt:75:8
 accessible-requires : tie.Need-accessible-requires
 accessible-requires c κs = search needs
 
--- src/cells.rt:75:25
 accessible-requires-2 : tie.Need-accessible-requires-2
 accessible-requires-2 c κs = search needs
 
--- src/cells.rt:76:9
 returns-3 : tie.Need-returns-3
 returns-3 c =
     let s = c .before .before .before .before .before .before .before .before .before .before .before .before .args in
     let e = c .before .before .before .before .before .before .before .before .before .table-word .ensures ∙ ap (tableWord (s .b) (s .m .now) (s .p .directory .0)) (c .before .before .before .before .before .before .before .before .before .before .virtual-page .ensures) in
     rw (← e, unequal refl refl (c .before .before .before .before .before .before .before .before .if1 .left), equal (c .before .before .before .before .before .before .before .page-of .ensures) (c .before .before .before .before .before .before .page-of2 .ensures) (c .before .before .before .if2 .left), unequal (c .before .before .accessible .ensures) (c .before .accessible2 .ensures) (c .if3 .taken))
 
--- src/cells.rt:78:20
 rights-requires : tie.Need-rights-requires
 rights-requires c κs = search needs
 
--- src/cells.rt:78:9
 has-rights-requires : tie.Need-has-rights-requires
 has-rights-requires c κs = search needs
 
--- src/cells.rt:79:9
 returns-4 : tie.Need-returns-4
 returns-4 c =
     let s = c .before .before .before .before .before .before .before .before .before .before .before .before .before .before .before .args in
     let e = c .before .before .before .before .before .before .before .before .before .before .before .before .table-word .ensures ∙ ap (tableWord (s .b) (s .m .now) (s .p .directory .0)) (c .before .before .before .before .before .before .before .before .before .before .before .before .before .virtual-page .ensures) in
     rw (← e, unequal refl refl (c .before .before .before .before .before .before .before .before .before .before .before .if1 .left), equal (c .before .before .before .before .before .before .before .before .before .before .page-of .ensures) (c .before .before .before .before .before .before .before .before .before .page-of2 .ensures) (c .before .before .before .before .before .before .if2 .left), equal (c .before .before .before .before .before .accessible .ensures) (c .before .before .before .before .accessible2 .ensures) (c .before .before .before .if3 .left), no (c .before .has-rights .ensures ∙ ap (λ (x : ℕ). holds x (c .before .before .before .before .before .before .before .before .before .before .before .before .table-word .result)) (c .before .before .rights .ensures)) (c .if4 .taken))
 
--- src/cells.rt:81:5
 table-word-requires-2 : tie.Need-table-word-requires-2
 table-word-requires-2 c κs = search needs
 
--- src/cells.rt:63:1
 returns-5 : tie.Need-returns-5
 returns-5 c =
     let s = c .before .before .before .before .before .before .before .before .before .before .before .before .before .before .before .before .before .args in

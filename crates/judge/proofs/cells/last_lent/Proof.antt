@@ -1,13 +1,12 @@
+-- `judge::cells::last_lent` meets its contract. Assumes nothing.
 use borrow.Author.Tests.{le-leb, lt-leb}
 use native.Mathlib.Omega.{arith}
 use Rattle.judge.proofs.cells.last_lent.Statement.{statement}
 use Rattle.judge.proofs.cells.last_lent.Tie as tie
 
--- src/cells.rt:138:1
 returns : tie.Need-returns
 returns c = rw (le-leb (c .before .args .x) 1 (omega arith))
 
--- src/cells.rt:138:1
 returns-2 : tie.Need-returns-2
 returns-2 c = rw (lt-leb (c .before .args .x) 1 (omega arith))
 

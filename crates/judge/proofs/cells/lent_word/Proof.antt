@@ -1,30 +1,25 @@
+-- `judge::cells::lent_word` meets its contract. Assumes nothing.
 use Rattle.forms.proofs.Laws.Tests.{yes, no, unequal, equal}
 use mathlib.Core.Path.{refl}
 use borrow.Author.Needs.{needs}
 use Rattle.judge.proofs.cells.lent_word.Statement.{statement}
 use Rattle.judge.proofs.cells.lent_word.Tie as tie
 
--- src/cells.rt:100:9
 virtual-address-requires : tie.Need-virtual-address-requires
 virtual-address-requires c κs = search needs
 
--- src/cells.rt:101:9
 returns : tie.Need-returns
 returns c = rw (no (c .before .virtual-address .ensures) (c .if1 .taken))
 
--- src/cells.rt:103:8
 table-for-requires : tie.Need-table-for-requires
 table-for-requires c κs = search needs
 
--- src/cells.rt:104:9
 returns-2 : tie.Need-returns-2
 returns-2 c = rw (yes (c .before .before .before .virtual-address .ensures) (c .before .before .if1 .left), equal (c .before .table-for .ensures) refl (c .if2 .taken))
 
--- src/cells.rt:106:5
 child-at-requires : tie.Need-child-at-requires
 child-at-requires c κs = search needs
 
--- src/cells.rt:96:1
 returns-3 : tie.Need-returns-3
 returns-3 c = rw (yes (c .before .before .before .before .virtual-address .ensures) (c .before .before .before .if1 .left), unequal (c .before .before .table-for .ensures) refl (c .before .if2 .left)) (c .child-at .ensures)
 

@@ -1,3 +1,4 @@
+-- `judge::cells::shadow1_word` meets its contract. Assumes nothing.
 use Rattle.forms.proofs.Laws.Tests.{unequal, equal}
 use mathlib.Core.Path.{refl, sym}
 use Rattle.judge.proofs.Laws.Lent.{passed-same}
@@ -5,37 +6,29 @@ use borrow.Author.Needs.{needs}
 use Rattle.judge.proofs.cells.shadow1_word.Statement.{statement}
 use Rattle.judge.proofs.cells.shadow1_word.Tie as tie
 
--- src/cells.rt:126:9
 returns : tie.Need-returns
 returns c = rw (equal refl refl (c .if1 .taken))
 
--- src/cells.rt:129:37
 address-of-requires : tie.Need-address-of-requires
 address-of-requires c κs = search needs
 
--- src/cells.rt:129:55
 page-of-requires : tie.Need-page-of-requires
 page-of-requires c κs = search needs
 
--- src/cells.rt:129:16
 child-forms-requires : tie.Need-child-forms-requires
 child-forms-requires c κs = search needs
 
--- src/cells.rt:129:9
 returns-2 : tie.Need-returns-2
 returns-2 c = rw (unequal refl refl (c .before .before .before .before .if1 .left), equal refl refl (c .before .before .before .if2 .taken)) (rw (c .before .page-of .ensures, c .before .before .address-of .ensures) at (c .child-forms .ensures))
 
--- src/cells.rt:132:9
 returns-3 : tie.Need-returns-3
 returns-3 c =
     let s = c .before .before .before .before .args in
     rw (unequal refl refl (c .before .before .if1 .left), unequal refl refl (c .before .if2 .left)) (sym (passed-same (s .b) (s .m .now) (s .d .0) (c .before .before .if1 .left) (c .if3 .taken) (c .before .before .before .before .pre .1 .1)))
 
--- src/cells.rt:134:5
 lent-word-requires : tie.Need-lent-word-requires
 lent-word-requires c κs = search needs
 
--- src/cells.rt:111:1
 returns-4 : tie.Need-returns-4
 returns-4 c = rw (unequal refl refl (c .before .before .before .if1 .left), unequal refl refl (c .before .before .if2 .left)) (c .lent-word .ensures)
 

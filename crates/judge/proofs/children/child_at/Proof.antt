@@ -1,3 +1,4 @@
+-- `judge::children::child_at` meets its contract. Assumes nothing.
 use mathlib.Core.Path.{refl}
 use Rattle.memory.specs.Counts.{childAt}
 use Rattle.forms.proofs.Laws.Tests.{unequal, equal, same-eqb}
@@ -5,20 +6,16 @@ use borrow.Author.Needs.{needs}
 use Rattle.judge.proofs.children.child_at.Statement.{statement}
 use Rattle.judge.proofs.children.child_at.Tie as tie
 
--- src/children.rt:27:8
 mapping-requires : tie.Need-mapping-requires
 mapping-requires c κs = search needs
 
--- src/children.rt:28:9
 returns : tie.Need-returns
 unfolding childAt
 returns c = rw (equal (c .before .mapping .ensures) refl (c .if1 .taken))
 
--- src/children.rt:30:5
 lent-requires : tie.Need-lent-requires
 lent-requires c κs = search needs
 
--- src/children.rt:23:1
 returns-2 : tie.Need-returns-2
 unfolding childAt
 returns-2 c = rw (unequal (c .before .before .mapping .ensures) refl (c .before .if1 .left)) (same-eqb (c .lent .ensures) refl)

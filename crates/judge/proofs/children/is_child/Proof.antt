@@ -1,3 +1,4 @@
+-- `judge::children::is_child` meets its contract. Assumes nothing.
 use lib.Dec.{eqb}
 use Rattle.forms.proofs.Laws.Tests.{and-false, and-true}
 use mathlib.Core.Bool.{Bool, not, _&&_}
@@ -7,11 +8,9 @@ use borrow.Author.Tests.{eq-eqb, ne-eqb}
 use Rattle.judge.proofs.children.is_child.Statement.{statement}
 use Rattle.judge.proofs.children.is_child.Tie as tie
 
--- src/children.rt:39:9
 returns : tie.Need-returns
 returns c = sym (ap (λ (t : Bool). not (eqb (c .before .args .w) 0) && t) (ne-eqb (c .before .args .x) 1 (c .if1 .taken)) ∙ and-false (not (eqb (c .before .args .w) 0)))
 
--- src/children.rt:35:1
 returns-2 : tie.Need-returns-2
 returns-2 c = sym (ap (λ (t : Bool). not (eqb (c .before .args .w) 0) && t) (eq-eqb (c .before .args .x) 1 (c .if1 .left)) ∙ and-true (not (eqb (c .before .args .w) 0)))
 

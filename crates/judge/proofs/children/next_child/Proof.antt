@@ -1,3 +1,4 @@
+-- `judge::children::next_child` meets its contract. Assumes nothing.
 use Prim.Native.Nat.{_-_}
 use mathlib.Core.Path.{_≡_, refl, sym, _∙_}
 use native.Mathlib.Omega.{arith}
@@ -15,47 +16,36 @@ Inv-loop pt s1 n i j₀ j = seek (λ k. childWords (getD pt k 0) (getD s1 k 0)) 
 abbrev μ-loop : tie.MeasureT-loop
 μ-loop pt s1 n i j₀ j = n - j
 
--- src/children.rt:50:5
 loop-holds : tie.Need-loop-holds Inv-loop μ-loop
 loop-holds c = refl
 
--- src/children.rt:51:21
 mul-is-child : tie.Need-mul-is-child Inv-loop μ-loop
 mul-is-child c = search needs
 
--- src/children.rt:51:21
 shared-slice-read-is-child : tie.Need-shared-slice-read-is-child Inv-loop μ-loop
 shared-slice-read-is-child c = search needs
 
--- src/children.rt:51:28
 mul-is-child-2 : tie.Need-mul-is-child-2 Inv-loop μ-loop
 mul-is-child-2 c = search needs
 
--- src/children.rt:51:28
 shared-slice-read-is-child-2 : tie.Need-shared-slice-read-is-child-2 Inv-loop μ-loop
 shared-slice-read-is-child-2 c = search needs
 
--- src/children.rt:51:12
 is-child-requires : tie.Need-is-child-requires Inv-loop μ-loop
 is-child-requires c κs = search needs
 
--- src/children.rt:52:13
 returns : tie.Need-returns Inv-loop μ-loop
 returns c = sym (c .before .before .before .before .before .loop .inv ∙ seek-here (λ k. childWords (getD (c .before .before .before .before .before .before .before .before .args .pt .now) k 0) (getD (c .before .before .before .before .before .before .before .before .args .s1 .now) k 0)) (c .before .before .before .before .before .before .before .before .args .n) (c .before .before .before .before .before .loop .j) (omega arith) (sym (c .before .is-child .ensures) ∙ c .if1 .taken))
 
--- src/children.rt:54:9
 add-j : tie.Need-add-j Inv-loop μ-loop
 add-j c = search needs
 
--- src/children.rt:50:5
 loop-less : tie.Need-loop-less Inv-loop μ-loop
 loop-less c = search needs
 
--- src/children.rt:50:5
 loop-again : tie.Need-loop-again Inv-loop μ-loop
 loop-again c = c .before .before .before .before .before .loop .inv ∙ seek-on (λ k. childWords (getD (c .before .before .before .before .before .before .before .before .args .pt .now) k 0) (getD (c .before .before .before .before .before .before .before .before .args .s1 .now) k 0)) (c .before .before .before .before .before .before .before .before .args .n) (c .before .before .before .before .before .loop .j) (omega arith) (sym (c .before .is-child .ensures) ∙ c .if1 .left)
 
--- src/children.rt:45:1
 returns-2 : tie.Need-returns-2 Inv-loop μ-loop
 returns-2 c = sym (c .before .loop .inv ∙ seek-end (λ k. childWords (getD (c .before .before .before .before .args .pt .now) k 0) (getD (c .before .before .before .before .args .s1 .now) k 0)) (c .before .before .before .before .args .n) (c .before .loop .j) (c .loop-test .left))
 

@@ -1,3 +1,4 @@
+-- `judge::cycle::judge_children` and `judge::cycle::judge_partition` meet their contracts. The depth that is left falls. Assumes nothing.
 use Prim.Native.Nat.{_+_, _-_, _≤_}
 use mathlib.Core.Path.{_≡_, refl, sym, ap, _∙_}
 use mathlib.Core.Bool.{true}

@@ -1,3 +1,4 @@
+-- `judge::marks::kernel_page` meets its contract. Assumes nothing.
 use mathlib.Core.Path.{ap, _∙_}
 use native.Mathlib.Omega.{arith}
 use Rattle.memory.specs.Geometry.{pageOf}
@@ -6,35 +7,27 @@ use borrow.Author.Needs.{needs}
 use Rattle.judge.proofs.marks.kernel_page.Statement.{statement}
 use Rattle.judge.proofs.marks.kernel_page.Tie as tie
 
--- src/marks.rt:49:9
 returns : tie.Need-returns
 returns c = search needs
 
--- src/marks.rt:52:31
 mul-named : tie.Need-mul-named
 mul-named c = search needs
 
--- src/marks.rt:52:31
 add-named : tie.Need-add-named
 add-named c = search needs
 
--- src/marks.rt:52:9
 named-requires : tie.Need-named-requires
 named-requires c κs = search needs
 
--- src/marks.rt:52:9
 returns-2 : tie.Need-returns-2
 returns-2 c = c .named .ensures ∙ kernel-five (c .before .before .before .before .args .b) (c .before .before .before .before .args .m .now) (c .before .before .before .before .args .d .0) (c .before .before .before .before .args .j) (c .before .before .if1 .left) (c .before .if2 .taken)
 
--- src/marks.rt:54:16
 list-pair-requires : tie.Need-list-pair-requires
 list-pair-requires c κs = search needs
 
--- src/marks.rt:54:5
 page-of-requires : tie.Need-page-of-requires
 page-of-requires c κs = search needs
 
--- src/marks.rt:43:1
 returns-3 : tie.Need-returns-3
 returns-3 c = c .page-of .ensures ∙ ap (pageOf (c .before .before .before .before .before .args .b)) (c .before .list-pair .ensures .1) ∙ kernel-listed (c .before .before .before .before .before .args .b) (c .before .before .before .before .before .args .m .now) (c .before .before .before .before .before .args .d .0) (c .before .before .before .before .before .args .j) (omega arith) (c .before .before .before .before .before .pre .1)
 

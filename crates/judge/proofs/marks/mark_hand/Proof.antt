@@ -1,3 +1,4 @@
+-- `judge::marks::mark_hand` meets its contract. Assumes nothing.
 use Rattle.forms.proofs.Laws.Tests.{equal, unequal}
 use Rattle.walk.specs.Marks.{mark}
 use borrow.Author.Tests.{eq-eqb, ne-eqb}
@@ -6,35 +7,27 @@ use borrow.Author.Needs.{needs}
 use Rattle.judge.proofs.marks.mark_hand.Statement.{statement}
 use Rattle.judge.proofs.marks.mark_hand.Tie as tie
 
--- src/marks.rt:86:9
 returns : tie.Need-returns
 returns c = rw (eq-eqb (c .before .before .args .w) 0 (c .if1 .taken)) refl
 
--- src/marks.rt:88:8
 accessible-requires : tie.Need-accessible-requires
 accessible-requires c κs = search needs
 
--- src/marks.rt:89:9
 returns-2 : tie.Need-returns-2
 returns-2 c = rw (ne-eqb (c .before .before .before .before .args .w) 0 (c .before .before .if1 .left), unequal (c .before .accessible .ensures) refl (c .if2 .taken)) refl
 
--- src/marks.rt:92:9
 returns-3 : tie.Need-returns-3
 returns-3 c = rw (ne-eqb (c .before .before .before .before .before .args .w) 0 (c .before .before .before .if1 .left), equal (c .before .before .accessible .ensures) refl (c .before .if2 .left), ne-eqb (c .before .before .before .before .before .args .x) 0 (c .if3 .taken)) refl
 
--- src/marks.rt:94:21
 page-of-requires : tie.Need-page-of-requires
 page-of-requires c κs = search needs
 
--- src/marks.rt:94:5
 mark-page-requires : tie.Need-mark-page-requires
 mark-page-requires c κs = search needs
 
--- src/marks.rt:81:1
 same-length : tie.Need-same-length
 same-length c = search needs
 
--- src/marks.rt:81:1
 returns-4 : tie.Need-returns-4
 returns-4 c = rw (ne-eqb (c .before .before .before .before .before .before .before .before .before .before .args .w) 0 (c .before .before .before .before .before .before .before .before .if1 .left), equal (c .before .before .before .before .before .before .before .accessible .ensures) refl (c .before .before .before .before .before .before .if2 .left), eq-eqb (c .before .before .before .before .before .before .before .before .before .before .args .x) 0 (c .before .before .before .before .before .if3 .left)) (ap (mark (c .before .before .before .before .before .before .before .before .before .before .args .seen .now)) (sym (c .before .before .before .page-of .ensures)) ∙ c .before .before .mark-page .ensures)
 

@@ -1,3 +1,4 @@
+-- `judge::marks::mark_kernel` meets its contract. Assumes nothing.
 use Prim.Native.Nat.{_-_}
 use mathlib.Core.Path.{_≡_, refl, _∙_}
 use mathlib.Core.List.{_++_}
@@ -18,55 +19,42 @@ Inv-loop b m seen₀ d n j₀ seen j = (length seen ≡ length seen₀) × (mark
 abbrev μ-loop : tie.MeasureT-loop
 μ-loop b m seen₀ d n j₀ seen j = n - j
 
--- src/marks.rt:63:21
 threes-requires : tie.Need-threes-requires Inv-loop μ-loop
 threes-requires c κs = search needs
 
--- src/marks.rt:63:17
 mul-n : tie.Need-mul-n Inv-loop μ-loop
 mul-n c = search needs
 
--- src/marks.rt:63:13
 add-n : tie.Need-add-n Inv-loop μ-loop
 add-n c = search needs
 
--- src/marks.rt:65:5
 loop-holds : tie.Need-loop-holds Inv-loop μ-loop
 loop-holds c = (refl, refl)
 
--- src/marks.rt:66:29
 kernel-page-requires : tie.Need-kernel-page-requires Inv-loop μ-loop
 kernel-page-requires c κs = search needs
 
--- src/marks.rt:66:13
 mark-page-requires : tie.Need-mark-page-requires Inv-loop μ-loop
 mark-page-requires c κs = search needs
 
--- src/marks.rt:67:13
 same-length : tie.Need-same-length Inv-loop μ-loop
 same-length c = search needs
 
--- src/marks.rt:67:13
 returns : tie.Need-returns Inv-loop μ-loop
 returns c = mark-failed (fivePages (c .before .before .before .before .before .before .before .before .before .before .before .args .b) (c .before .before .before .before .before .before .before .before .before .before .before .args .m .now) (c .before .before .before .before .before .before .before .before .before .before .before .args .d .0) ++ listedPages (c .before .before .before .before .before .before .before .before .before .before .before .args .b) (c .before .before .before .before .before .before .before .before .before .before .before .args .m .now) (c .before .before .before .before .before .before .before .before .before .before .before .args .d .0)) (c .before .before .before .before .before .before .before .loop .j) (c .before .before .before .before .before .before .before .loop .seen) (c .before .before .before .mark-page .result) (c .before .before .before .mark-page .last .0) (omega (arith, c .before .before .before .before .before .before .before .before .threes .ensures, front (c .before .before .before .before .before .before .before .before .before .before .before .args .b) (c .before .before .before .before .before .before .before .before .before .before .before .args .m .now) (c .before .before .before .before .before .before .before .before .before .before .before .args .d .0))) (c .before .before .before .before .kernel-page .ensures) (c .before .before .before .mark-page .ensures) (c .if1 .taken) (c .before .before .before .before .before .before .before .loop .inv .1)
 
--- src/marks.rt:69:9
 add-j : tie.Need-add-j Inv-loop μ-loop
 add-j c = search needs
 
--- src/marks.rt:65:5
 loop-less : tie.Need-loop-less Inv-loop μ-loop
 loop-less c = search needs
 
--- src/marks.rt:65:5
 loop-again : tie.Need-loop-again Inv-loop μ-loop
 loop-again c = (c .before .before .before .mark-page .kept .0 ∙ c .before .before .before .before .before .before .before .loop .inv .0, mark-went (fivePages (c .before .before .before .before .before .before .before .before .before .before .before .args .b) (c .before .before .before .before .before .before .before .before .before .before .before .args .m .now) (c .before .before .before .before .before .before .before .before .before .before .before .args .d .0) ++ listedPages (c .before .before .before .before .before .before .before .before .before .before .before .args .b) (c .before .before .before .before .before .before .before .before .before .before .before .args .m .now) (c .before .before .before .before .before .before .before .before .before .before .before .args .d .0)) (c .before .before .before .before .before .before .before .loop .j) (c .before .before .before .before .before .before .before .loop .seen) (c .before .before .before .mark-page .result) (c .before .before .before .mark-page .last .0) (omega (arith, c .before .before .before .before .before .before .before .before .threes .ensures, front (c .before .before .before .before .before .before .before .before .before .before .before .args .b) (c .before .before .before .before .before .before .before .before .before .before .before .args .m .now) (c .before .before .before .before .before .before .before .before .before .before .before .args .d .0))) (c .before .before .before .before .kernel-page .ensures) (c .before .before .before .mark-page .ensures) (c .if1 .left) (c .before .before .before .before .before .before .before .loop .inv .1))
 
--- src/marks.rt:58:1
 same-length-2 : tie.Need-same-length-2 Inv-loop μ-loop
 same-length-2 c = search needs
 
--- src/marks.rt:58:1
 returns-2 : tie.Need-returns-2 Inv-loop μ-loop
 returns-2 c = mark-end (fivePages (c .before .before .before .before .before .args .b) (c .before .before .before .before .before .args .m .now) (c .before .before .before .before .before .args .d .0) ++ listedPages (c .before .before .before .before .before .args .b) (c .before .before .before .before .before .args .m .now) (c .before .before .before .before .before .args .d .0)) (c .before .loop .j) (c .before .loop .seen) (omega (arith, c .before .before .threes .ensures, front (c .before .before .before .before .before .args .b) (c .before .before .before .before .before .args .m .now) (c .before .before .before .before .before .args .d .0))) (c .before .loop .inv .1)
 

@@ -1,38 +1,31 @@
+-- `judge::marks::mark_page` meets its contract. Assumes nothing.
 use native.Mathlib.Nat.{pos-of-ne-zero}
 use Rattle.walk.specs.Marks.{mark-zero, mark-out, mark-taken, mark-is}
 use borrow.Author.Needs.{needs}
 use Rattle.judge.proofs.marks.mark_page.Statement.{statement}
 use Rattle.judge.proofs.marks.mark_page.Tie as tie
 
--- src/marks.rt:28:13
 cast-i : tie.Need-cast-i
 cast-i c = search needs
 
--- src/marks.rt:30:9
 returns : tie.Need-returns
 returns c = mark-zero _ _ (c .if1 .taken)
 
--- src/marks.rt:33:9
 returns-2 : tie.Need-returns-2
 returns-2 c = mark-out _ _ (c .if2 .taken)
 
--- src/marks.rt:35:8
 slice-read-if3 : tie.Need-slice-read-if3
 slice-read-if3 c = search needs
 
--- src/marks.rt:36:9
 returns-3 : tie.Need-returns-3
 returns-3 c = mark-taken _ _ (c .if3 .taken)
 
--- src/marks.rt:38:5
 slice-write-seen : tie.Need-slice-write-seen
 slice-write-seen c = search needs
 
--- src/marks.rt:25:1
 same-length : tie.Need-same-length
 same-length c = search needs
 
--- src/marks.rt:25:1
 returns-4 : tie.Need-returns-4
 returns-4 c = mark-is _ _ (pos-of-ne-zero (c .before .before .before .if1 .left)) (c .before .before .if2 .left) (c .if3 .left)
 

@@ -1,3 +1,4 @@
+-- `judge::partitions::lent_test` meets its contract. Assumes nothing.
 use Rattle.memory.specs.Partition.{parent}
 use Prim.Native.Nat.{ℕ, _-_}
 use mathlib.Core.Path.{refl, ap, _∙_}
@@ -7,23 +8,18 @@ use borrow.Author.Needs.{needs}
 use Rattle.judge.proofs.partitions.lent_test.Statement.{statement}
 use Rattle.judge.proofs.partitions.lent_test.Tie as tie
 
--- src/partitions.rt:29:9
 returns : tie.Need-returns
 returns c = rw (equal refl refl (c .if1 .taken))
 
--- src/partitions.rt:31:22
 parent-requires : tie.Need-parent-requires
 parent-requires c κs = search needs
 
--- src/partitions.rt:31:39
 read-word-requires : tie.Need-read-word-requires
 read-word-requires c κs = search needs
 
--- src/partitions.rt:31:5
 lent-count-requires : tie.Need-lent-count-requires
 lent-count-requires c κs = search needs
 
--- src/partitions.rt:19:1
 returns-2 : tie.Need-returns-2
 returns-2 c = rw (unequal refl refl (c .before .before .before .if1 .left)) (same-eqb (c .lent-count .ensures ∙ ap (λ (p : ℕ). lentCount (c .before .before .before .before .before .before .args .b) (c .before .before .before .before .before .before .args .m .now) p (c .before .read-word .result)) (c .before .before .parent .ensures) ∙ ap (lentCount (c .before .before .before .before .before .before .args .b) (c .before .before .before .before .before .before .args .m .now) (parent (c .before .before .before .before .before .before .args .b) (c .before .before .before .before .before .before .args .m .now) (c .before .before .before .before .before .before .args .d .0))) (c .before .read-word .ensures)) refl)
 

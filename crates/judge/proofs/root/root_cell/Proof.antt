@@ -1,3 +1,4 @@
+-- `judge::root::root_cell` meets its contract. Assumes nothing.
 use Prim.Native.Nat.{ℕ, _+_}
 use mathlib.Core.Path.{refl}
 use native.Mathlib.Omega.{arith}
@@ -7,35 +8,27 @@ use borrow.Author.Needs.{needs}
 use Rattle.judge.proofs.root.root_cell.Statement.{statement}
 use Rattle.judge.proofs.root.root_cell.Tie as tie
 
--- src/root.rt:36:9
 returns : tie.Need-returns
 returns c = rw (unequal refl refl (c .if1 .taken))
 
--- src/root.rt:39:9
 returns-2 : tie.Need-returns-2
 returns-2 c = rw (equal refl refl (c .before .before .if1 .left), lt-leb 1 (c .before .before .before .args .v .0) (omega arith))
 
--- src/root.rt:42:9
 returns-3 : tie.Need-returns-3
 returns-3 c = rw (equal refl refl (c .before .before .before .before .if1 .left), le-leb 1 (c .before .before .before .before .before .args .v .0) (omega arith), lt-leb (c .before .before .before .before .before .args .v .0) (c .before .before .before .before .before .args .flat) (omega arith))
 
--- src/root.rt:44:8
 page-of-requires : tie.Need-page-of-requires
 page-of-requires c κs = search needs
 
--- src/root.rt:44:27
 add-if4 : tie.Need-add-if4
 add-if4 c = search needs
 
--- src/root.rt:45:9
 returns-4 : tie.Need-returns-4
 returns-4 c = rw (equal refl refl (c .before .before .before .before .before .before .before .before .if1 .left), le-leb 1 (c .before .before .before .before .before .before .before .before .before .args .v .0) (omega arith), le-leb (c .before .before .before .before .before .before .before .before .before .args .v .0) (c .before .before .before .before .before .before .before .before .before .args .flat) (omega arith), unequal (c .before .before .before .page-of .ensures) refl (c .if4 .taken))
 
--- src/root.rt:47:5
 rights-requires : tie.Need-rights-requires
 rights-requires c κs = search needs
 
--- src/root.rt:30:1
 returns-5 : tie.Need-returns-5
 returns-5 c = rw (equal refl refl (c .before .before .before .before .before .before .before .before .before .if1 .left), le-leb 1 (c .before .before .before .before .before .before .before .before .before .before .args .v .0) (omega arith), le-leb (c .before .before .before .before .before .before .before .before .before .before .args .v .0) (c .before .before .before .before .before .before .before .before .before .before .args .flat) (omega arith), equal (c .before .before .before .before .page-of .ensures) refl (c .before .if4 .left)) (same-eqb (c .rights .ensures) refl)
 

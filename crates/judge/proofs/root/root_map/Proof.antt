@@ -1,3 +1,4 @@
+-- `judge::root::root_map` meets its contract. Assumes nothing.
 use Rattle.judge.proofs.Laws.Rows.{asks-next, dir-short}
 use Prim.Native.Nat.{ℕ, _+_, _-_, _*_, _≤_, _<_}
 use mathlib.Core.Path.{_≡_, sym, ap, _∙_}
@@ -26,113 +27,88 @@ Inv-loop b m n first flat dir sh2 i₀ i = (i ≤ length dir) × (i < length dir
 abbrev μ-loop : tie.MeasureT-loop
 μ-loop b m n first flat dir sh2 i₀ i = length dir - i
 
--- src/root.rt:84:13
 pages-requires : tie.Need-pages-requires Inv-loop μ-loop
 pages-requires c κs = search needs
 
--- src/root.rt:85:25
 threes-for-requires : tie.Need-threes-for-requires Inv-loop μ-loop
 threes-for-requires c κs = search needs
 
--- src/root.rt:85:21
 mul-first : tie.Need-mul-first Inv-loop μ-loop
 mul-first c = search needs
 
--- src/root.rt:85:17
 add-first : tie.Need-add-first Inv-loop μ-loop
 add-first c = search needs
 
--- src/root.rt:86:16
 flat-pages-requires : tie.Need-flat-pages-requires Inv-loop μ-loop
 flat-pages-requires c κs = search needs
 
--- src/root.rt:87:30
 directory-requires : tie.Need-directory-requires Inv-loop μ-loop
 directory-requires c κs = search needs
 
--- src/root.rt:87:15
 words-of-requires : tie.Need-words-of-requires Inv-loop μ-loop
 words-of-requires c κs = search needs
 
--- src/root.rt:88:30
 shadow2-requires : tie.Need-shadow2-requires Inv-loop μ-loop
 shadow2-requires c κs = search needs
 
--- src/root.rt:88:15
 words-of-requires-2 : tie.Need-words-of-requires-2 Inv-loop μ-loop
 words-of-requires-2 c κs = search needs
 
--- src/root.rt:89:17
 next-word-requires : tie.Need-next-word-requires Inv-loop μ-loop
 next-word-requires c κs = search needs
 
--- src/root.rt:90:5
 loop-holds : tie.Need-loop-holds Inv-loop μ-loop
 loop-holds c =
     let s = c .before .before .before .before .before .before .before .before .before .args in
     let dir = c .before .before .before .words-of .result .now in
     (next-high (used dir) (length dir) 0 (omega arith) (c .next-word .ensures), next-here (used dir) (length dir) 0 (omega arith) (c .next-word .ensures), rows-first (s .b) (s .m .now) (asking (rootMapTest (s .b) (s .m .now))) 1 dir (c .before .before .before .words-of .ensures ∙ ap (page (s .b) (s .m .now)) (c .before .before .before .before .directory .ensures)) true (root-run (s .b) (s .m .now) 1) (c .next-word .ensures))
 
--- src/root.rt:91:33
 mul-table-of : tie.Need-mul-table-of Inv-loop μ-loop
 mul-table-of c = search needs
 
--- src/root.rt:91:33
 shared-slice-read-table-of : tie.Need-shared-slice-read-table-of Inv-loop μ-loop
 shared-slice-read-table-of c = search needs
 
--- src/root.rt:91:18
 table-of-requires : tie.Need-table-of-requires Inv-loop μ-loop
 table-of-requires c κs = search needs
 
--- src/root.rt:92:33
 read-requires : tie.Need-read-requires Inv-loop μ-loop
 read-requires c κs = search needs
 
--- src/root.rt:92:18
 table-of-requires-2 : tie.Need-table-of-requires-2 Inv-loop μ-loop
 table-of-requires-2 c κs = search needs
 
--- src/root.rt:97:26
 cast-t18 : tie.Need-cast-t18 Inv-loop μ-loop
 cast-t18 c = omega (arith, dir-short (c .before .before .before .before .before .before .before .before .before .before .before .before .before .before .before .args .b) (c .before .before .before .before .before .before .before .before .before .before .before .before .before .before .before .args .m .now) (c .before .before .before .before .before .before .before .before .before .before .directory .result .0) (c .before .before .before .before .before .before .before .before .before .words-of .ensures), words-most (c .before .before .before .before .before .before .before .before .before .before .before .before .before .before .before .args .b) (c .before .before .before .before .before .before .before .before .before .before .before .before .before .before .before .pre .1))
 
--- src/root.rt:97:38
 page-words-requires : tie.Need-page-words-requires Inv-loop μ-loop
 page-words-requires c κs = search needs
 
--- src/root.rt:97:25
 mul-t20 : tie.Need-mul-t20 Inv-loop μ-loop
 mul-t20 c =
     let e : c .before .before .before .before .before .before .loop .i * c .page-words .result ≡ c .before .before .before .before .before .before .loop .i * pageWords (c .before .before .before .before .before .before .before .before .before .before .before .before .before .before .before .before .args .b) = rw (c .page-words .ensures .0) in
     omega (arith, row-in (c .before .before .before .before .before .before .before .before .before .before .before .before .before .before .before .before .args .b) (c .before .before .before .before .before .before .loop .i) (omega (arith, dir-short (c .before .before .before .before .before .before .before .before .before .before .before .before .before .before .before .before .args .b) (c .before .before .before .before .before .before .before .before .before .before .before .before .before .before .before .before .args .m .now) (c .before .before .before .before .before .before .before .before .before .before .before .directory .result .0) (c .before .before .before .before .before .before .before .before .before .before .words-of .ensures))), most-pages (c .before .before .before .before .before .before .before .before .before .before .before .before .before .before .before .before .args .b) (c .before .before .before .before .before .before .before .before .before .before .before .before .before .before .before .before .pre .1))
 
--- src/root.rt:93:13
 root-row-requires : tie.Need-root-row-requires Inv-loop μ-loop
 root-row-requires c κs =
     let e : c .before .before .before .before .before .before .loop .i * c .page-words .result ≡ c .before .before .before .before .before .before .loop .i * pageWords (c .before .before .before .before .before .before .before .before .before .before .before .before .before .before .before .before .args .b) = rw (c .page-words .ensures .0) in
     (c .before .before .before .before .before .before .before .before .before .before .before .before .before .before .before .before .pre, (omega (arith, row-in (c .before .before .before .before .before .before .before .before .before .before .before .before .before .before .before .before .args .b) (c .before .before .before .before .before .before .loop .i) (omega (arith, dir-short (c .before .before .before .before .before .before .before .before .before .before .before .before .before .before .before .before .args .b) (c .before .before .before .before .before .before .before .before .before .before .before .before .before .before .before .before .args .m .now) (c .before .before .before .before .before .before .before .before .before .before .before .directory .result .0) (c .before .before .before .before .before .before .before .before .before .before .words-of .ensures)))), omega (arith, c .before .before .before .before .before .before .before .before .before .before .before .before .before .threes-for .ensures .1, most-pages (c .before .before .before .before .before .before .before .before .before .before .before .before .before .before .before .before .args .b) (c .before .before .before .before .before .before .before .before .before .before .before .before .before .before .before .before .pre .1))))
 
--- src/root.rt:101:13
 returns : tie.Need-returns Inv-loop μ-loop
 returns c =
     let s = c .before .before .before .before .before .before .before .before .before .before .before .before .before .before .before .before .before .before .args in
     let e = c .before .before .before .before .before .before .before .before .before .before .before .before .words-of .ensures ∙ ap (page (s .b) (s .m .now)) (c .before .before .before .before .before .before .before .before .before .before .before .before .before .directory .ensures) in
     asks-stop (s .b) (s .m .now) (rootMapTest (s .b) (s .m .now)) 1 (c .before .before .before .before .before .before .before .before .before .before .before .before .words-of .result .now) e (c .before .before .before .before .before .before .before .loop-test .taken) (root-row (s .b) (s .m .now) (c .before .before .before .before .before .before .before .before .loop .i) e (c .before .before .before .before .before .before .before .loop-test .taken) (c .before .before .before .before .before .before .before .before .loop .inv .1 (c .before .before .before .before .before .before .before .loop-test .taken)) (c .before .before .before .before .before .table-of .ensures) (c .before .before .before .before .before .before .before .before .before .before .words-of2 .ensures ∙ ap (page (s .b) (s .m .now)) (c .before .before .before .before .before .before .before .before .before .before .before .shadow2 .ensures)) (c .before .before .before .before .read .ensures) (c .before .before .before .table-of2 .ensures) (ap (λ (x : ℕ). c .before .before .before .before .before .before .before .before .loop .i * x) (c .before .before .page-words .ensures .0)) (c .before .before .before .before .before .before .before .before .before .before .before .before .before .before .before .before .pages .ensures) (c .before .before .before .before .before .before .before .before .before .before .before .before .before .before .before .threes-for .ensures .0) (c .before .before .before .before .before .before .before .before .before .before .before .before .before .before .flat-pages .ensures) (c .before .root-row .ensures)) (c .if1 .taken) (c .before .before .before .before .before .before .before .before .loop .inv .2)
 
--- src/root.rt:103:28
 add-next-word : tie.Need-add-next-word Inv-loop μ-loop
 add-next-word c = search needs
 
--- src/root.rt:103:13
 next-word-requires-2 : tie.Need-next-word-requires-2 Inv-loop μ-loop
 next-word-requires-2 c κs = search needs
 
--- src/root.rt:90:5
 loop-less : tie.Need-loop-less Inv-loop μ-loop
 loop-less c = omega (arith, next-low (used (c .before .before .before .before .before .before .before .before .before .before .before .before .before .words-of .result .now)) (length (c .before .before .before .before .before .before .before .before .before .before .before .before .before .words-of .result .now)) (c .before .before .before .before .before .before .before .before .before .loop .i + 1) (c .next-word2 .ensures))
 
--- src/root.rt:90:5
 loop-again : tie.Need-loop-again Inv-loop μ-loop
 loop-again c =
     let s = c .before .before .before .before .before .before .before .before .before .before .before .before .before .before .before .before .before .before .before .args in
@@ -140,7 +116,6 @@ loop-again c =
     let e = c .before .before .before .before .before .before .before .before .before .before .before .before .before .words-of .ensures ∙ ap (page (s .b) (s .m .now)) (c .before .before .before .before .before .before .before .before .before .before .before .before .before .before .directory .ensures) in
     (next-high (used dir) (length dir) (c .before .before .before .before .before .before .before .before .before .loop .i + 1) (omega arith) (c .next-word2 .ensures), next-here (used dir) (length dir) (c .before .before .before .before .before .before .before .before .before .loop .i + 1) (omega arith) (c .next-word2 .ensures), asks-next (s .b) (s .m .now) (rootMapTest (s .b) (s .m .now)) 1 dir e (c .before .before .before .before .before .before .before .before .loop-test .taken) (root-row (s .b) (s .m .now) (c .before .before .before .before .before .before .before .before .before .loop .i) e (c .before .before .before .before .before .before .before .before .loop-test .taken) (c .before .before .before .before .before .before .before .before .before .loop .inv .1 (c .before .before .before .before .before .before .before .before .loop-test .taken)) (c .before .before .before .before .before .before .table-of .ensures) (c .before .before .before .before .before .before .before .before .before .before .before .words-of2 .ensures ∙ ap (page (s .b) (s .m .now)) (c .before .before .before .before .before .before .before .before .before .before .before .before .shadow2 .ensures)) (c .before .before .before .before .before .read .ensures) (c .before .before .before .before .table-of2 .ensures) (ap (λ (x : ℕ). c .before .before .before .before .before .before .before .before .before .loop .i * x) (c .before .before .before .page-words .ensures .0)) (c .before .before .before .before .before .before .before .before .before .before .before .before .before .before .before .before .before .pages .ensures) (c .before .before .before .before .before .before .before .before .before .before .before .before .before .before .before .before .threes-for .ensures .0) (c .before .before .before .before .before .before .before .before .before .before .before .before .before .before .before .flat-pages .ensures) (c .before .before .root-row .ensures)) (c .before .if1 .left) (c .next-word2 .ensures) (c .before .before .before .before .before .before .before .before .before .loop .inv .2))
 
--- src/root.rt:80:1
 returns-2 : tie.Need-returns-2 Inv-loop μ-loop
 returns-2 c =
     let s = c .before .before .before .before .before .before .before .before .before .before .before .args in

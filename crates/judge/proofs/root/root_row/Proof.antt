@@ -1,3 +1,4 @@
+-- `judge::root::root_row` meets its contract. Assumes nothing.
 use Rattle.judge.proofs.Laws.Sweeps.{root-words}
 use Prim.Native.Nat.{_+_, _-_, _≤_}
 use mathlib.Core.Path.{_≡_, sym, _∙_}
@@ -20,55 +21,42 @@ Inv-loop b first flat v pt s2 end j₀ j = (j ≤ pageWords b) × (run (asking (
 abbrev μ-loop : tie.MeasureT-loop
 μ-loop b first flat v pt s2 end j₀ j = pageWords b - j
 
--- src/root.rt:61:15
 page-words-requires : tie.Need-page-words-requires Inv-loop μ-loop
 page-words-requires c κs = search needs
 
--- src/root.rt:63:5
 loop-holds : tie.Need-loop-holds Inv-loop μ-loop
 loop-holds c = (omega arith, run-start (asking (λ k. rootWords (c .before .before .before .args .b) (c .before .before .before .args .first) (c .before .before .before .args .flat) (c .before .before .before .args .v .0 + k) (getD (c .before .before .before .args .pt .now) k 0) (getD (c .before .before .before .args .s2 .now) k 0))) (pageWords (c .before .before .before .args .b)) true)
 
--- src/root.rt:68:25
 add-t10 : tie.Need-add-t10 Inv-loop μ-loop
 add-t10 c = omega (arith, c .before .before .before .before .before .before .pre .1 .0, most-pages (c .before .before .before .before .before .before .args .b) (c .before .before .before .before .before .before .pre .0 .1), c .before .before .before .page-words .ensures .0)
 
--- src/root.rt:69:22
 cast-read : tie.Need-cast-read Inv-loop μ-loop
 cast-read c = search needs
 
--- src/root.rt:69:13
 read-requires : tie.Need-read-requires Inv-loop μ-loop
 read-requires c κs = search needs
 
--- src/root.rt:70:22
 cast-read-2 : tie.Need-cast-read-2 Inv-loop μ-loop
 cast-read-2 c = search needs
 
--- src/root.rt:70:13
 read-requires-2 : tie.Need-read-requires-2 Inv-loop μ-loop
 read-requires-2 c κs = search needs
 
--- src/root.rt:64:13
 root-cell-requires : tie.Need-root-cell-requires Inv-loop μ-loop
 root-cell-requires c κs = (c .before .before .before .before .before .before .before .before .pre .0, omega (arith, c .before .before .before .before .before .before .before .before .pre .1 .0, c .before .before .before .before .before .before .before .before .pre .1 .1, c .before .before .before .before .before .page-words .ensures .0, c .before .before .before .loop-test .taken))
 
--- src/root.rt:72:13
 returns : tie.Need-returns Inv-loop μ-loop
 returns c = ask-stop (λ k. rootWords (c .before .before .before .before .before .before .before .before .before .before .args .b) (c .before .before .before .before .before .before .before .before .before .before .args .first) (c .before .before .before .before .before .before .before .before .before .before .args .flat) (c .before .before .before .before .before .before .before .before .before .before .args .v .0 + k) (getD (c .before .before .before .before .before .before .before .before .before .before .args .pt .now) k 0) (getD (c .before .before .before .before .before .before .before .before .before .before .args .s2 .now) k 0)) (pageWords (c .before .before .before .before .before .before .before .before .before .before .args .b)) (c .before .before .before .before .before .before .loop .j) (omega (arith, c .before .before .before .before .before .before .before .page-words .ensures .0)) (c .before .root-cell .ensures ∙ root-words (c .before .before .before .before .before .before .before .before .before .before .args .b) (c .before .before .before .before .before .before .before .before .before .before .args .first) (c .before .before .before .before .before .before .before .before .before .before .args .flat) (c .before .before .before .before .before .before .before .before .before .before .args .v .0 + c .before .before .before .before .before .before .loop .j) (c .before .before .before .read .ensures) (c .before .before .read2 .ensures)) (c .if1 .taken) (c .before .before .before .before .before .before .loop .inv .1)
 
--- src/root.rt:74:9
 add-j : tie.Need-add-j Inv-loop μ-loop
 add-j c = search needs
 
--- src/root.rt:63:5
 loop-less : tie.Need-loop-less Inv-loop μ-loop
 loop-less c = search needs
 
--- src/root.rt:63:5
 loop-again : tie.Need-loop-again Inv-loop μ-loop
 loop-again c = (omega (arith, c .before .before .before .before .before .before .before .page-words .ensures .0), ask-next (λ k. rootWords (c .before .before .before .before .before .before .before .before .before .before .args .b) (c .before .before .before .before .before .before .before .before .before .before .args .first) (c .before .before .before .before .before .before .before .before .before .before .args .flat) (c .before .before .before .before .before .before .before .before .before .before .args .v .0 + k) (getD (c .before .before .before .before .before .before .before .before .before .before .args .pt .now) k 0) (getD (c .before .before .before .before .before .before .before .before .before .before .args .s2 .now) k 0)) (pageWords (c .before .before .before .before .before .before .before .before .before .before .args .b)) (c .before .before .before .before .before .before .loop .j) (omega (arith, c .before .before .before .before .before .before .before .page-words .ensures .0)) (c .before .root-cell .ensures ∙ root-words (c .before .before .before .before .before .before .before .before .before .before .args .b) (c .before .before .before .before .before .before .before .before .before .before .args .first) (c .before .before .before .before .before .before .before .before .before .before .args .flat) (c .before .before .before .before .before .before .before .before .before .before .args .v .0 + c .before .before .before .before .before .before .loop .j) (c .before .before .before .read .ensures) (c .before .before .read2 .ensures)) (c .if1 .left) (c .before .before .before .before .before .before .loop .inv .1))
 
--- src/root.rt:51:1
 returns-2 : tie.Need-returns-2 Inv-loop μ-loop
 returns-2 c = sym (c .before .loop .inv .1 ∙ run-end (asking (λ k. rootWords (c .before .before .before .before .before .args .b) (c .before .before .before .before .before .args .first) (c .before .before .before .before .before .args .flat) (c .before .before .before .before .before .args .v .0 + k) (getD (c .before .before .before .before .before .args .pt .now) k 0) (getD (c .before .before .before .before .before .args .s2 .now) k 0))) (pageWords (c .before .before .before .before .before .args .b)) (c .before .loop .j) true (omega (arith, c .before .before .page-words .ensures .0)))
 

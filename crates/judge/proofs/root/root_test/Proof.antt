@@ -1,3 +1,4 @@
+-- `judge::root::root_test` meets its contract. Assumes nothing.
 use Prim.Native.Nat.{_-_}
 use Rattle.forms.proofs.Laws.Tests.{yes, no}
 use Rattle.soundness.specs.Test.{rootTest}
@@ -5,20 +6,16 @@ use borrow.Author.Needs.{needs}
 use Rattle.judge.proofs.root.root_test.Statement.{statement}
 use Rattle.judge.proofs.root.root_test.Tie as tie
 
--- src/root.rt:112:9
 root-pages-requires : tie.Need-root-pages-requires
 root-pages-requires c κs = search needs
 
--- src/root.rt:113:9
 returns : tie.Need-returns
 unfolding rootTest
 returns c = rw (no (c .before .root-pages .ensures) (c .if1 .taken))
 
--- src/root.rt:115:5
 root-map-requires : tie.Need-root-map-requires
 root-map-requires c κs = search needs
 
--- src/root.rt:108:1
 returns-2 : tie.Need-returns-2
 unfolding rootTest
 returns-2 c = rw (yes (c .before .before .root-pages .ensures) (c .before .if1 .left)) (c .root-map .ensures)

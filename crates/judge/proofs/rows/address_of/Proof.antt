@@ -1,3 +1,4 @@
+-- `judge::rows::address_of` meets its contract. Assumes nothing.
 use Rattle.judge.proofs.Laws.Numbers.{address-fits}
 use Rattle.memory.specs.Geometry.{address}
 use native.Mathlib.Omega.{arith}
@@ -7,15 +8,12 @@ use borrow.Author.Needs.{needs}
 use Rattle.judge.proofs.rows.address_of.Statement.{statement}
 use Rattle.judge.proofs.rows.address_of.Tie as tie
 
--- src/rows.rt:60:11
 page-bytes-requires : tie.Need-page-bytes-requires
 page-bytes-requires c κs = search needs
 
--- src/rows.rt:60:5
 mul-result : tie.Need-mul-result
 mul-result c = let e : c .before .before .args .v .0 * c .before .page-bytes .result ≡ address (c .before .before .args .b) (c .before .before .args .v .0) = rw (c .before .page-bytes .ensures .0) in omega (arith, address-fits (c .before .before .args .b) (c .before .before .pre .0 .1) (c .before .before .args .v .0) (c .before .before .pre .1))
 
--- src/rows.rt:55:1
 returns : tie.Need-returns
 returns c = let e : c .before .before .args .v .0 * c .before .page-bytes .result ≡ address (c .before .before .args .b) (c .before .before .args .v .0) = rw (c .before .page-bytes .ensures .0) in e
 

@@ -1,3 +1,4 @@
+-- `judge::rows::next_word` meets its contract. Assumes nothing.
 use Prim.Native.Nat.{_+_, _-_, _≤_}
 use mathlib.Core.Path.{_≡_, refl, sym, ap, _∙_}
 use mathlib.Core.Bool.{not}
@@ -25,127 +26,96 @@ Inv-loop2 s i j₀ j = (j ≤ length s) × (seek (used s) (length s - i) i ≡ s
 abbrev μ-loop2 : tie.MeasureT-loop2
 μ-loop2 s i j₀ j = length s - j
 
--- src/rows.rt:45:5
 loop-holds : tie.Need-loop-holds Inv-loop μ-loop Inv-loop2 μ-loop2
 loop-holds c = (c .pre, refl)
 
--- src/rows.rt:45:16
 sub-loop : tie.Need-sub-loop Inv-loop μ-loop Inv-loop2 μ-loop2
 sub-loop c = search needs
 
--- src/rows.rt:46:12
 mul-if1 : tie.Need-mul-if1 Inv-loop μ-loop Inv-loop2 μ-loop2
 mul-if1 c = search needs
 
--- src/rows.rt:46:12
 shared-slice-read-if1 : tie.Need-shared-slice-read-if1 Inv-loop μ-loop Inv-loop2 μ-loop2
 shared-slice-read-if1 c = search needs
 
--- src/rows.rt:47:13
 returns : tie.Need-returns Inv-loop μ-loop Inv-loop2 μ-loop2
 returns c = sym (c .before .before .before .loop .inv .1 ∙ seek-here (used (c .before .before .before .before .args .s .now)) (length (c .before .before .before .before .args .s .now)) (c .before .before .before .loop .j) (omega arith) (ap not (ne-eqb (getD (c .before .before .before .before .args .s .now) (c .before .before .before .loop .j) 0) 0 (c .if1 .taken))))
 
--- src/rows.rt:49:14
 add-if2 : tie.Need-add-if2 Inv-loop μ-loop Inv-loop2 μ-loop2
 add-if2 c = search needs
 
--- src/rows.rt:49:12
 mul-if2 : tie.Need-mul-if2 Inv-loop μ-loop Inv-loop2 μ-loop2
 mul-if2 c = search needs
 
--- src/rows.rt:49:12
 shared-slice-read-if2 : tie.Need-shared-slice-read-if2 Inv-loop μ-loop Inv-loop2 μ-loop2
 shared-slice-read-if2 c = search needs
 
--- src/rows.rt:50:20
 add-result : tie.Need-add-result Inv-loop μ-loop Inv-loop2 μ-loop2
 add-result c = search needs
 
--- src/rows.rt:50:13
 returns-2 : tie.Need-returns-2 Inv-loop μ-loop Inv-loop2 μ-loop2
 returns-2 c = sym (c .before .before .before .before .before .loop .inv .1 ∙ seek-on (used (c .before .before .before .before .before .before .args .s .now)) (length (c .before .before .before .before .before .before .args .s .now)) (c .before .before .before .before .before .loop .j) (omega arith) (ap not (eq-eqb (getD (c .before .before .before .before .before .before .args .s .now) (c .before .before .before .before .before .loop .j) 0) 0 (c .before .before .if1 .left))) ∙ seek-here (used (c .before .before .before .before .before .before .args .s .now)) (length (c .before .before .before .before .before .before .args .s .now)) (c .before .before .before .before .before .loop .j + 1) (omega arith) (ap not (ne-eqb (getD (c .before .before .before .before .before .before .args .s .now) (c .before .before .before .before .before .loop .j + 1) 0) 0 (c .if2 .taken))))
 
--- src/rows.rt:52:14
 add-if3 : tie.Need-add-if3 Inv-loop μ-loop Inv-loop2 μ-loop2
 add-if3 c = search needs
 
--- src/rows.rt:52:12
 mul-if3 : tie.Need-mul-if3 Inv-loop μ-loop Inv-loop2 μ-loop2
 mul-if3 c = search needs
 
--- src/rows.rt:52:12
 shared-slice-read-if3 : tie.Need-shared-slice-read-if3 Inv-loop μ-loop Inv-loop2 μ-loop2
 shared-slice-read-if3 c = search needs
 
--- src/rows.rt:53:20
 add-result-2 : tie.Need-add-result-2 Inv-loop μ-loop Inv-loop2 μ-loop2
 add-result-2 c = search needs
 
--- src/rows.rt:53:13
 returns-3 : tie.Need-returns-3 Inv-loop μ-loop Inv-loop2 μ-loop2
 returns-3 c = sym (c .before .before .before .before .before .before .before .loop .inv .1 ∙ seek-two (used (c .before .before .before .before .before .before .before .before .args .s .now)) (length (c .before .before .before .before .before .before .before .before .args .s .now)) (c .before .before .before .before .before .before .before .loop .j) (omega arith) (ap not (eq-eqb (getD (c .before .before .before .before .before .before .before .before .args .s .now) (c .before .before .before .before .before .before .before .loop .j) 0) 0 (c .before .before .before .before .if1 .left))) (ap not (eq-eqb (getD (c .before .before .before .before .before .before .before .before .args .s .now) (c .before .before .before .before .before .before .before .loop .j + 1) 0) 0 (c .before .before .if2 .left))) ∙ seek-here (used (c .before .before .before .before .before .before .before .before .args .s .now)) (length (c .before .before .before .before .before .before .before .before .args .s .now)) (c .before .before .before .before .before .before .before .loop .j + 2) (omega arith) (ap not (ne-eqb (getD (c .before .before .before .before .before .before .before .before .args .s .now) (c .before .before .before .before .before .before .before .loop .j + 2) 0) 0 (c .if3 .taken))))
 
--- src/rows.rt:55:14
 add-if4 : tie.Need-add-if4 Inv-loop μ-loop Inv-loop2 μ-loop2
 add-if4 c = search needs
 
--- src/rows.rt:55:12
 mul-if4 : tie.Need-mul-if4 Inv-loop μ-loop Inv-loop2 μ-loop2
 mul-if4 c = search needs
 
--- src/rows.rt:55:12
 shared-slice-read-if4 : tie.Need-shared-slice-read-if4 Inv-loop μ-loop Inv-loop2 μ-loop2
 shared-slice-read-if4 c = search needs
 
--- src/rows.rt:56:20
 add-result-3 : tie.Need-add-result-3 Inv-loop μ-loop Inv-loop2 μ-loop2
 add-result-3 c = search needs
 
--- src/rows.rt:56:13
 returns-4 : tie.Need-returns-4 Inv-loop μ-loop Inv-loop2 μ-loop2
 returns-4 c = sym (c .before .before .before .before .before .before .before .before .before .loop .inv .1 ∙ seek-three (used (c .before .before .before .before .before .before .before .before .before .before .args .s .now)) (length (c .before .before .before .before .before .before .before .before .before .before .args .s .now)) (c .before .before .before .before .before .before .before .before .before .loop .j) (omega arith) (ap not (eq-eqb (getD (c .before .before .before .before .before .before .before .before .before .before .args .s .now) (c .before .before .before .before .before .before .before .before .before .loop .j) 0) 0 (c .before .before .before .before .before .before .if1 .left))) (ap not (eq-eqb (getD (c .before .before .before .before .before .before .before .before .before .before .args .s .now) (c .before .before .before .before .before .before .before .before .before .loop .j + 1) 0) 0 (c .before .before .before .before .if2 .left))) (ap not (eq-eqb (getD (c .before .before .before .before .before .before .before .before .before .before .args .s .now) (c .before .before .before .before .before .before .before .before .before .loop .j + 2) 0) 0 (c .before .before .if3 .left))) ∙ seek-here (used (c .before .before .before .before .before .before .before .before .before .before .args .s .now)) (length (c .before .before .before .before .before .before .before .before .before .before .args .s .now)) (c .before .before .before .before .before .before .before .before .before .loop .j + 3) (omega arith) (ap not (ne-eqb (getD (c .before .before .before .before .before .before .before .before .before .before .args .s .now) (c .before .before .before .before .before .before .before .before .before .loop .j + 3) 0) 0 (c .if4 .taken))))
 
--- src/rows.rt:58:9
 add-j : tie.Need-add-j Inv-loop μ-loop Inv-loop2 μ-loop2
 add-j c = search needs
 
--- src/rows.rt:45:5
 loop-less : tie.Need-loop-less Inv-loop μ-loop Inv-loop2 μ-loop2
 loop-less c = search needs
 
--- src/rows.rt:45:5
 loop-again : tie.Need-loop-again Inv-loop μ-loop Inv-loop2 μ-loop2
 loop-again c = (omega arith, c .before .before .before .before .before .before .before .before .before .loop .inv .1 ∙ seek-four (used (c .before .before .before .before .before .before .before .before .before .before .args .s .now)) (length (c .before .before .before .before .before .before .before .before .before .before .args .s .now)) (c .before .before .before .before .before .before .before .before .before .loop .j) (omega arith) (ap not (eq-eqb (getD (c .before .before .before .before .before .before .before .before .before .before .args .s .now) (c .before .before .before .before .before .before .before .before .before .loop .j) 0) 0 (c .before .before .before .before .before .before .if1 .left))) (ap not (eq-eqb (getD (c .before .before .before .before .before .before .before .before .before .before .args .s .now) (c .before .before .before .before .before .before .before .before .before .loop .j + 1) 0) 0 (c .before .before .before .before .if2 .left))) (ap not (eq-eqb (getD (c .before .before .before .before .before .before .before .before .before .before .args .s .now) (c .before .before .before .before .before .before .before .before .before .loop .j + 2) 0) 0 (c .before .before .if3 .left))) (ap not (eq-eqb (getD (c .before .before .before .before .before .before .before .before .before .before .args .s .now) (c .before .before .before .before .before .before .before .before .before .loop .j + 3) 0) 0 (c .if4 .left))))
 
--- src/rows.rt:60:5
 loop2-holds : tie.Need-loop2-holds Inv-loop μ-loop Inv-loop2 μ-loop2
 loop2-holds c = c .before .loop .inv
 
--- src/rows.rt:61:12
 mul-if5 : tie.Need-mul-if5 Inv-loop μ-loop Inv-loop2 μ-loop2
 mul-if5 c = search needs
 
--- src/rows.rt:61:12
 shared-slice-read-if5 : tie.Need-shared-slice-read-if5 Inv-loop μ-loop Inv-loop2 μ-loop2
 shared-slice-read-if5 c = search needs
 
--- src/rows.rt:62:13
 returns-5 : tie.Need-returns-5 Inv-loop μ-loop Inv-loop2 μ-loop2
 returns-5 c = sym (c .before .before .before .loop2 .inv .1 ∙ seek-here (used (c .before .before .before .before .before .before .args .s .now)) (length (c .before .before .before .before .before .before .args .s .now)) (c .before .before .before .loop2 .j) (omega arith) (ap not (ne-eqb (getD (c .before .before .before .before .before .before .args .s .now) (c .before .before .before .loop2 .j) 0) 0 (c .if5 .taken))))
 
--- src/rows.rt:64:9
 add-j-2 : tie.Need-add-j-2 Inv-loop μ-loop Inv-loop2 μ-loop2
 add-j-2 c = search needs
 
--- src/rows.rt:60:5
 loop2-less : tie.Need-loop2-less Inv-loop μ-loop Inv-loop2 μ-loop2
 loop2-less c = search needs
 
--- src/rows.rt:60:5
 loop2-again : tie.Need-loop2-again Inv-loop μ-loop Inv-loop2 μ-loop2
 loop2-again c = (omega arith, c .before .before .before .loop2 .inv .1 ∙ seek-on (used (c .before .before .before .before .before .before .args .s .now)) (length (c .before .before .before .before .before .before .args .s .now)) (c .before .before .before .loop2 .j) (omega arith) (ap not (eq-eqb (getD (c .before .before .before .before .before .before .args .s .now) (c .before .before .before .loop2 .j) 0) 0 (c .if5 .left))))
 
--- src/rows.rt:40:1
 returns-6 : tie.Need-returns-6 Inv-loop μ-loop Inv-loop2 μ-loop2
 returns-6 c = sym (c .before .loop2 .inv .1 ∙ seek-end (used (c .before .before .before .before .args .s .now)) (length (c .before .before .before .before .args .s .now)) (c .before .loop2 .j) (c .loop2-test .left))
 

@@ -1,3 +1,4 @@
+-- `judge::rows::table_of` meets its contract. Assumes nothing.
 use Rattle.judge.proofs.Laws.Rows.{table-none, table-some}
 use Rattle.memory.specs.Words.{page}
 use mathlib.Core.Path.{sym, ap, _∙_}
@@ -5,31 +6,24 @@ use borrow.Author.Needs.{needs}
 use Rattle.judge.proofs.rows.table_of.Statement.{statement}
 use Rattle.judge.proofs.rows.table_of.Tie as tie
 
--- src/rows.rt:34:16
 sub-result : tie.Need-sub-result
 sub-result c = search needs
 
--- src/rows.rt:34:16
 part-result-start : tie.Need-part-result-start
 part-result-start c = search needs
 
--- src/rows.rt:34:16
 part-result-end : tie.Need-part-result-end
 part-result-end c = search needs
 
--- src/rows.rt:34:9
 returns : tie.Need-returns
 returns c = sym (table-none (c .before .before .before .args .b) (c .before .before .before .args .m .now) (c .before .before .before .args .w) (c .before .if1 .taken))
 
--- src/rows.rt:36:20
 page-of-requires : tie.Need-page-of-requires
 page-of-requires c κs = search needs
 
--- src/rows.rt:36:5
 words-of-requires : tie.Need-words-of-requires
 words-of-requires c κs = search needs
 
--- src/rows.rt:29:1
 returns-2 : tie.Need-returns-2
 returns-2 c = c .words-of .ensures ∙ ap (page (c .before .before .before .before .args .b) (c .before .before .before .before .args .m .now)) (c .before .page-of .ensures) ∙ sym (table-some (c .before .before .before .before .args .b) (c .before .before .before .before .args .m .now) (c .before .before .before .before .args .w) (c .before .before .if1 .left))
 

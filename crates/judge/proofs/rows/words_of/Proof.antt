@@ -1,3 +1,4 @@
+-- `judge::rows::words_of` meets its contract. Assumes nothing.
 use Rattle.judge.proofs.Laws.Rows.{part-is}
 use Rattle.memory.specs.Geometry.{pageWords}
 use lib.ListN.{length}
@@ -8,43 +9,33 @@ use borrow.Author.Needs.{needs}
 use Rattle.judge.proofs.rows.words_of.Statement.{statement}
 use Rattle.judge.proofs.rows.words_of.Tie as tie
 
--- src/rows.rt:23:19
 index-requires : tie.Need-index-requires
 index-requires c κs = search needs
 
--- src/rows.rt:23:9
 least-requires : tie.Need-least-requires
 least-requires c κs = search needs
 
--- src/rows.rt:24:31
 page-words-requires : tie.Need-page-words-requires
 page-words-requires c κs = search needs
 
--- src/rows.rt:24:19
 index-requires-2 : tie.Need-index-requires-2
 index-requires-2 c κs = search needs
 
--- src/rows.rt:24:9
 least-requires-2 : tie.Need-least-requires-2
 least-requires-2 c κs = search needs
 
--- src/rows.rt:25:5
 mul-result : tie.Need-mul-result
 mul-result c = search needs
 
--- src/rows.rt:25:5
 sub-result : tie.Need-sub-result
 sub-result c = search needs
 
--- src/rows.rt:25:5
 part-result-start : tie.Need-part-result-start
 part-result-start c = search needs
 
--- src/rows.rt:25:5
 part-result-end : tie.Need-part-result-end
 part-result-end c = search needs
 
--- src/rows.rt:19:1
 returns : tie.Need-returns
 returns c = part-is (c .before .before .before .before .before .before .before .args .m .now) (c .before .before .before .before .before .before .before .args .p .0 * pageWords (c .before .before .before .before .before .before .before .args .b)) (pageWords (c .before .before .before .before .before .before .before .args .b)) (c .before .before .before .before .least .ensures ∙ ap (λ (x : ℕ). min x (length (c .before .before .before .before .before .before .before .args .m .now))) (c .before .before .before .before .before .index .ensures .0 ∙ omega arith)) (c .before .least2 .ensures ∙ ap (λ (x : ℕ). min x (length (c .before .before .before .before .before .before .before .args .m .now))) (c .before .before .index2 .ensures .0 ∙ ap (λ (x : ℕ). c .before .before .before .before .before .before .before .args .p .0 * pageWords (c .before .before .before .before .before .before .before .args .b) + x) (c .before .before .before .page-words .ensures .0)))
 

@@ -1,3 +1,4 @@
+-- `judge::sound::is_sound` meets its contract. Assumes nothing.
 use Rattle.judge.proofs.Laws.Judged.{header-most, unsound-header, clear-part}
 use Prim.Native.Nat.{ℕ}
 use mathlib.Core.Path.{ap, _∙_}
@@ -11,39 +12,30 @@ use borrow.Author.Needs.{needs}
 use Rattle.judge.proofs.sound.is_sound.Statement.{statement}
 use Rattle.judge.proofs.sound.is_sound.Tie as tie
 
--- src/sound.rt:37:9
 width-requires : tie.Need-width-requires
 width-requires c κs = search needs
 
--- src/sound.rt:38:9
 header-test-requires : tie.Need-header-test-requires
 header-test-requires c κs = search needs
 
--- src/sound.rt:39:9
 returns : tie.Need-returns
 returns c = unsound-header 6 (c .before .before .before .before .args .m .now) (no (c .before .header-test .ensures ∙ ap (λ (b : ℕ). headerTest b (c .before .before .before .before .args .m .now)) (c .before .before .width .ensures)) (c .if1 .taken))
 
--- src/sound.rt:41:13
 pages-requires : tie.Need-pages-requires
 pages-requires c κs = search needs
 
--- src/sound.rt:41:13
 cast-n : tie.Need-cast-n
 cast-n c = search needs
 
--- src/sound.rt:43:23
 sub-judged-with : tie.Need-sub-judged-with
 sub-judged-with c = search needs
 
--- src/sound.rt:43:23
 part-seen-start : tie.Need-part-seen-start
 part-seen-start c = search needs
 
--- src/sound.rt:43:23
 part-seen-end : tie.Need-part-seen-end
 part-seen-end c = omega (arith, (c .pages .ensures ∙ ap (λ (b : ℕ). pages b (c .before .before .before .before .before .args .m .now)) (c .before .before .before .width .ensures)), header-most 6 (c .before .before .before .before .before .args .m .now) (yes (c .before .before .header-test .ensures ∙ ap (λ (b : ℕ). headerTest b (c .before .before .before .before .before .args .m .now)) (c .before .before .before .width .ensures)) (c .before .if1 .left)))
 
--- src/sound.rt:43:5
 judged-with-requires : tie.Need-judged-with-requires
 judged-with-requires c κs = (
   omega (arith, c .before .before .before .before .width .ensures),
@@ -53,7 +45,6 @@ judged-with-requires c κs = (
   ),
 )
 
--- src/sound.rt:34:1
 returns-2 : tie.Need-returns-2
 returns-2 c = c .before .judged-with .ensures ∙ ap (λ (b : ℕ). quickTest b (c .before .before .before .before .before .before .before .before .args .m .now)) (c .before .before .before .before .before .before .width .ensures) ∙ quick-exact 6 (omega arith) (c .before .before .before .before .before .before .before .before .args .m .now)
 

@@ -1,3 +1,4 @@
+-- `judge::sound::judged_with` meets its contract. Assumes nothing.
 use mathlib.Core.Path.{ap, _∙_}
 use lib.ListN.{length, length-replicate}
 use Rattle.memory.specs.Counts.{children}
@@ -12,41 +13,32 @@ use borrow.Author.Needs.{needs}
 use Rattle.judge.proofs.sound.judged_with.Statement.{statement}
 use Rattle.judge.proofs.sound.judged_with.Tie as tie
 
--- src/sound.rt:24:9
 root-test-requires : tie.Need-root-test-requires
 root-test-requires c κs = search needs
 
--- src/sound.rt:25:9
 returns : tie.Need-returns
 unfolding quickTest
 returns c = rw (c .before .before .before .before .pre .1 .0, no (c .before .root-test .ensures) (c .if1 .taken))
 
--- src/sound.rt:27:9
 tree-test-requires : tie.Need-tree-test-requires
 tree-test-requires c κs = (c .before .before .before .before .before .pre .0, ap length (c .before .before .before .before .before .pre .1 .1) ∙ length-replicate (pages (c .before .before .before .before .before .args .b) (c .before .before .before .before .before .args .m .now)) 0)
 
--- src/sound.rt:28:9
 same-length : tie.Need-same-length
 same-length c = search needs
 
--- src/sound.rt:28:9
 returns-2 : tie.Need-returns-2
 unfolding quickTest
 returns-2 c = rw (c .before .before .before .before .before .before .before .before .before .pre .1 .0, yes (c .before .before .before .before .before .before .root-test .ensures) (c .before .before .before .before .before .if1 .left), no (c .before .before .before .tree-test .ensures ∙ ap (λ (s : Seen). judged (c .before .before .before .before .before .before .before .before .before .args .b) (c .before .before .before .before .before .before .before .before .before .args .m .now) (W.judge (children (c .before .before .before .before .before .before .before .before .before .args .b) (c .before .before .before .before .before .before .before .before .before .args .m .now)) (own (c .before .before .before .before .before .before .before .before .before .args .b) (c .before .before .before .before .before .before .before .before .before .args .m .now)) (partitionTest (c .before .before .before .before .before .before .before .before .before .args .b) (c .before .before .before .before .before .before .before .before .before .args .m .now)) mostDepth s 1)) (c .before .before .before .before .before .before .before .before .before .pre .1 .1)) (c .if2 .taken))
 
--- src/sound.rt:30:17
 current-requires : tie.Need-current-requires
 current-requires c κs = search needs
 
--- src/sound.rt:30:5
 under-requires : tie.Need-under-requires
 under-requires c κs = search needs
 
--- src/sound.rt:18:1
 same-length-2 : tie.Need-same-length-2
 same-length-2 c = search needs
 
--- src/sound.rt:18:1
 returns-3 : tie.Need-returns-3
 unfolding quickTest
 returns-3 c = rw (c .before .before .before .before .before .before .before .before .before .before .before .pre .1 .0, yes (c .before .before .before .before .before .before .before .before .root-test .ensures) (c .before .before .before .before .before .before .before .if1 .left), yes (c .before .before .before .before .before .tree-test .ensures ∙ ap (λ (s : Seen). judged (c .before .before .before .before .before .before .before .before .before .before .before .args .b) (c .before .before .before .before .before .before .before .before .before .before .before .args .m .now) (W.judge (children (c .before .before .before .before .before .before .before .before .before .before .before .args .b) (c .before .before .before .before .before .before .before .before .before .before .before .args .m .now)) (own (c .before .before .before .before .before .before .before .before .before .before .before .args .b) (c .before .before .before .before .before .before .before .before .before .before .before .args .m .now)) (partitionTest (c .before .before .before .before .before .before .before .before .before .before .before .args .b) (c .before .before .before .before .before .before .before .before .before .before .before .args .m .now)) mostDepth s 1)) (c .before .before .before .before .before .before .before .before .before .before .before .pre .1 .1)) (c .before .before .if2 .left)) (c .under .ensures ∙ ap (under (c .before .before .before .before .before .before .before .before .before .before .before .args .b) (c .before .before .before .before .before .before .before .before .before .before .before .args .m .now) mostDepth) (c .before .current .ensures))

@@ -1,3 +1,4 @@
+-- `judge::tally::due_pages` meets its contract. Assumes nothing.
 use Rattle.memory.specs.Partition.{threes}
 use borrow.Author.Tests.{eq-eqb, ne-eqb}
 use native.Mathlib.Omega.{arith}
@@ -7,35 +8,27 @@ use borrow.Author.Needs.{needs}
 use Rattle.judge.proofs.tally.due_pages.Statement.{statement}
 use Rattle.judge.proofs.tally.due_pages.Tie as tie
 
--- src/tally.rt:55:9
 returns : tie.Need-returns
 returns c = (rw (eq-eqb (c .before .before .args .w) 0 (c .if1 .taken)), omega arith)
 
--- src/tally.rt:58:9
 returns-2 : tie.Need-returns-2
 returns-2 c = (rw (ne-eqb (c .before .before .before .args .w) 0 (c .before .if1 .left), ne-eqb (c .before .before .before .args .x) 1 (c .if2 .taken)), omega arith)
 
--- src/tally.rt:60:27
 page-of-requires : tie.Need-page-of-requires
 page-of-requires c κs = search needs
 
--- src/tally.rt:60:14
 threes-requires : tie.Need-threes-requires
 threes-requires c κs = search needs
 
--- src/tally.rt:60:14
 cast-result : tie.Need-cast-result
 cast-result c = search needs
 
--- src/tally.rt:60:9
 mul-result : tie.Need-mul-result
 mul-result c = search needs
 
--- src/tally.rt:60:5
 add-result : tie.Need-add-result
 add-result c = search needs
 
--- src/tally.rt:50:1
 returns-3 : tie.Need-returns-3
 returns-3 c = (rw (ne-eqb (c .before .before .before .before .before .args .w) 0 (c .before .before .before .if1 .left), eq-eqb (c .before .before .before .before .before .args .x) 1 (c .before .before .if2 .left)) (ap (λ (k : ℕ). 5 + 3 * k) (c .threes .ensures ∙ ap (threes (c .before .before .before .before .before .args .b) (c .before .before .before .before .before .args .m .now)) (c .before .page-of .ensures))), omega arith)
 

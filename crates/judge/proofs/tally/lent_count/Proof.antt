@@ -1,3 +1,4 @@
+-- `judge::tally::lent_count` meets its contract. Assumes nothing.
 use Rattle.judge.proofs.Laws.Rows.{dir-short}
 use mathlib.Core.List.{List}
 use mathlib.Core.Path.{subst}
@@ -27,69 +28,54 @@ Inv-loop b m v dir sh1 k₀ i₀ k i = (i ≤ length dir) × (i < length dir →
 abbrev μ-loop : tie.MeasureT-loop
 μ-loop b m v dir sh1 k₀ i₀ k i = length dir - i
 
--- src/tally.rt:153:30
 directory-requires : tie.Need-directory-requires Inv-loop μ-loop
 directory-requires c κs = search needs
 
--- src/tally.rt:153:9
 words-of-requires : tie.Need-words-of-requires Inv-loop μ-loop
 words-of-requires c κs = search needs
 
--- src/tally.rt:154:30
 shadow1-requires : tie.Need-shadow1-requires Inv-loop μ-loop
 shadow1-requires c κs = search needs
 
--- src/tally.rt:154:9
 words-of-requires-2 : tie.Need-words-of-requires-2 Inv-loop μ-loop
 words-of-requires-2 c κs = search needs
 
--- src/tally.rt:156:9
 next-word-requires : tie.Need-next-word-requires Inv-loop μ-loop
 next-word-requires c κs = search needs
 
--- src/tally.rt:157:5
 loop-holds : tie.Need-loop-holds Inv-loop μ-loop
 loop-holds c =
     let s = c .before .before .before .before .before .before .args in
     let dir = c .before .before .before .words-of .result .now in
     (next-high (used dir) (length dir) 0 (omega arith) (c .next-word .ensures), next-here (used dir) (length dir) 0 (omega arith) (c .next-word .ensures), omega arith, λ d e e1. rows-first (s .b) (s .m .now) (adding (lentAt (s .b) (s .m .now) d (s .v))) d dir e 0 (lent-run (s .b) (s .m .now) d (s .v)) (c .next-word .ensures))
 
--- src/tally.rt:158:41
 read-requires : tie.Need-read-requires Inv-loop μ-loop
 read-requires c κs = search needs
 
--- src/tally.rt:158:26
 table-of-requires : tie.Need-table-of-requires Inv-loop μ-loop
 table-of-requires c κs = search needs
 
--- src/tally.rt:158:14
 lent-row-requires : tie.Need-lent-row-requires Inv-loop μ-loop
 lent-row-requires c κs = (c .before .before .before .before .before .before .before .before .before .before .pre, subst (λ (t : List ℕ). length t ≤ pageWords (c .before .before .before .before .before .before .before .before .before .before .args .b)) (sym (c .table-of .ensures)) (table-short (c .before .before .before .before .before .before .before .before .before .before .args .b) (c .before .before .before .before .before .before .before .before .before .before .args .m .now) (c .before .read .result)))
 
--- src/tally.rt:158:9
 add-k : tie.Need-add-k Inv-loop μ-loop
 add-k c = omega (arith, c .lent-row .ensures .1, c .before .before .before .before .loop .inv .2, dir-short (c .before .before .before .before .before .before .before .before .before .before .before .args .b) (c .before .before .before .before .before .before .before .before .before .before .before .args .m .now) (c .before .before .before .before .before .before .before .before .before .directory .result .0) (c .before .before .before .before .before .before .before .before .words-of .ensures), words-most (c .before .before .before .before .before .before .before .before .before .before .before .args .b) (c .before .before .before .before .before .before .before .before .before .before .before .pre .1))
 
--- src/tally.rt:159:28
 add-next-word : tie.Need-add-next-word Inv-loop μ-loop
 add-next-word c = search needs
 
--- src/tally.rt:159:9
 next-word-requires-2 : tie.Need-next-word-requires-2 Inv-loop μ-loop
 next-word-requires-2 c κs = search needs
 
--- src/tally.rt:157:5
 loop-less : tie.Need-loop-less Inv-loop μ-loop
 loop-less c = omega (arith, next-low (used (c .before .before .before .before .before .before .before .before .before .words-of .result .now)) (length (c .before .before .before .before .before .before .before .before .before .words-of .result .now)) (c .before .before .before .before .before .loop .i + 1) (c .next-word2 .ensures))
 
--- src/tally.rt:157:5
 loop-again : tie.Need-loop-again Inv-loop μ-loop
 loop-again c =
     let s = c .before .before .before .before .before .before .before .before .before .before .before .before .args in
     let dir = c .before .before .before .before .before .before .before .before .before .words-of .result .now in
     (next-high (used dir) (length dir) (c .before .before .before .before .before .loop .i + 1) (omega arith) (c .next-word2 .ensures), next-here (used dir) (length dir) (c .before .before .before .before .before .loop .i + 1) (omega arith) (c .next-word2 .ensures), omega (arith, next-low (used dir) (length dir) (c .before .before .before .before .before .loop .i + 1) (c .next-word2 .ensures), c .before .lent-row .ensures .1, c .before .before .before .before .before .loop .inv .2), λ d e e1. rows-next (s .b) (s .m .now) (adding (lentAt (s .b) (s .m .now) d (s .v))) d dir e (c .before .before .before .before .before .loop .k) (c .before .before .before .before .before .loop .k + c .before .lent-row .result) (c .before .before .before .before .loop-test .taken) (lent-row (s .b) (s .m .now) d (c .before .before .before .before .before .loop .i) e (c .before .before .before .before .loop-test .taken) (c .before .before .before .before .before .loop .inv .1 (c .before .before .before .before .loop-test .taken)) refl e1 (c .before .before .before .read .ensures) (c .before .before .table-of .ensures) (s .v) (c .before .before .before .before .before .loop .k) (c .before .lent-row .ensures .0)) (c .next-word2 .ensures) (c .before .before .before .before .before .loop .inv .3 d e e1))
 
--- src/tally.rt:149:1
 returns : tie.Need-returns Inv-loop μ-loop
 returns c =
     let s = c .before .before .before .before .before .before .before .before .args in

@@ -1,3 +1,4 @@
+-- `judge::tally::shut_bit` meets its contract. Assumes nothing.
 use Rattle.forms.proofs.Laws.Tests.{equal, unequal}
 use borrow.Author.Tests.{eq-eqb, ne-eqb, le-leb, lt-leb}
 use native.Mathlib.Omega.{arith}
@@ -6,23 +7,18 @@ use borrow.Author.Needs.{needs}
 use Rattle.judge.proofs.tally.shut_bit.Statement.{statement}
 use Rattle.judge.proofs.tally.shut_bit.Tie as tie
 
--- src/tally.rt:38:9
 returns : tie.Need-returns
 returns c = (rw (eq-eqb (c .before .args .w) 0 (c .if1 .taken)), omega arith)
 
--- src/tally.rt:41:9
 returns-2 : tie.Need-returns-2
 returns-2 c = (rw (ne-eqb (c .before .before .args .w) 0 (c .before .if1 .left), lt-leb (c .before .before .args .x) 1 (c .if2 .taken)), omega arith)
 
--- src/tally.rt:43:8
 accessible-requires : tie.Need-accessible-requires
 accessible-requires c κs = search needs
 
--- src/tally.rt:44:9
 returns-3 : tie.Need-returns-3
 returns-3 c = (rw (ne-eqb (c .before .before .before .before .args .w) 0 (c .before .before .before .if1 .left), le-leb (c .before .before .before .before .args .x) 1 (c .before .before .if2 .left), equal (c .before .accessible .ensures) refl (c .if3 .taken)), omega arith)
 
--- src/tally.rt:34:1
 returns-4 : tie.Need-returns-4
 returns-4 c = (rw (ne-eqb (c .before .before .before .before .args .w) 0 (c .before .before .before .if1 .left), le-leb (c .before .before .before .before .args .x) 1 (c .before .before .if2 .left), unequal (c .before .accessible .ensures) refl (c .if3 .left)), omega arith)
 

@@ -1,3 +1,4 @@
+-- `judge::tree::all_marked` meets its contract. Assumes nothing.
 use Prim.Native.Nat.{_-_}
 use mathlib.Core.Path.{_≡_, refl, sym}
 use native.Mathlib.Omega.{arith}
@@ -16,31 +17,24 @@ Inv-loop seen i₀ i = all (λ p. eqb (getD seen p 0) 1) (from (length seen - 1)
 abbrev μ-loop : tie.MeasureT-loop
 μ-loop seen i₀ i = length seen - i
 
--- src/tree.rt:29:5
 loop-holds : tie.Need-loop-holds Inv-loop μ-loop
 loop-holds c = refl
 
--- src/tree.rt:30:12
 shared-slice-read-if1 : tie.Need-shared-slice-read-if1 Inv-loop μ-loop
 shared-slice-read-if1 c = search needs
 
--- src/tree.rt:31:13
 returns : tie.Need-returns Inv-loop μ-loop
 returns c = all-stop (λ p. eqb (getD (c .before .before .before .before .args .seen .now) p 0) 1) (length (c .before .before .before .before .args .seen .now)) (c .before .before .before .loop .i) (omega arith) (sym (ne-eqb _ _ (c .if1 .taken))) refl (c .before .before .before .loop .inv)
 
--- src/tree.rt:33:9
 add-i : tie.Need-add-i Inv-loop μ-loop
 add-i c = search needs
 
--- src/tree.rt:29:5
 loop-less : tie.Need-loop-less Inv-loop μ-loop
 loop-less c = search needs
 
--- src/tree.rt:29:5
 loop-again : tie.Need-loop-again Inv-loop μ-loop
 loop-again c = all-go (λ p. eqb (getD (c .before .before .before .before .args .seen .now) p 0) 1) (length (c .before .before .before .before .args .seen .now)) (c .before .before .before .loop .i) (omega arith) (sym (eq-eqb _ _ (c .if1 .left))) refl (c .before .before .before .loop .inv)
 
--- src/tree.rt:25:1
 returns-2 : tie.Need-returns-2 Inv-loop μ-loop
 returns-2 c = all-end (λ p. eqb (getD (c .before .before .args .seen .now) p 0) 1) (length (c .before .before .args .seen .now)) (c .before .loop .i) (omega arith) (c .before .loop .inv)
 

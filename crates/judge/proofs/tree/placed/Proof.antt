@@ -1,3 +1,4 @@
+-- `judge::tree::placed` meets its contract. Assumes nothing.
 use mathlib.Core.Path.{refl}
 use Rattle.judge.proofs.Laws.Tree.{placed-as}
 use Rattle.forms.proofs.Laws.Tests.{yes, no, unequal, equal, same-eqb}
@@ -5,43 +6,33 @@ use borrow.Author.Needs.{needs}
 use Rattle.judge.proofs.tree.placed.Statement.{statement}
 use Rattle.judge.proofs.tree.placed.Tie as tie
 
--- src/tree.rt:61:9
 parent-requires : tie.Need-parent-requires
 parent-requires c κs = search needs
 
--- src/tree.rt:62:9
 read-word-requires : tie.Need-read-word-requires
 read-word-requires c κs = search needs
 
--- src/tree.rt:63:9
 virtual-address-requires : tie.Need-virtual-address-requires
 virtual-address-requires c κs = search needs
 
--- src/tree.rt:64:9
 returns : tie.Need-returns
 returns c = rw (placed-as (c .before .before .before .before .before .args .b) (c .before .before .before .before .before .args .m .now) (c .before .before .before .before .before .args .c .0) (c .before .before .before .parent .ensures) (c .before .before .read-word .ensures), no (c .before .virtual-address .ensures) (c .if1 .taken))
 
--- src/tree.rt:66:8
 table-for-requires : tie.Need-table-for-requires
 table-for-requires c κs = search needs
 
--- src/tree.rt:67:9
 returns-2 : tie.Need-returns-2
 returns-2 c = rw (placed-as (c .before .before .before .before .before .before .before .args .b) (c .before .before .before .before .before .before .before .args .m .now) (c .before .before .before .before .before .before .before .args .c .0) (c .before .before .before .before .before .parent .ensures) (c .before .before .before .before .read-word .ensures), yes (c .before .before .before .virtual-address .ensures) (c .before .before .if1 .left), equal (c .before .table-for .ensures) refl (c .if2 .taken))
 
--- src/tree.rt:69:9
 child-at-requires : tie.Need-child-at-requires
 child-at-requires c κs = search needs
 
--- src/tree.rt:70:9
 returns-3 : tie.Need-returns-3
 returns-3 c = rw (placed-as (c .before .before .before .before .before .before .before .before .before .args .b) (c .before .before .before .before .before .before .before .before .before .args .m .now) (c .before .before .before .before .before .before .before .before .before .args .c .0) (c .before .before .before .before .before .before .before .parent .ensures) (c .before .before .before .before .before .before .read-word .ensures), yes (c .before .before .before .before .before .virtual-address .ensures) (c .before .before .before .before .if1 .left), unequal (c .before .before .before .table-for .ensures) refl (c .before .before .if2 .left), no (c .before .child-at .ensures) (c .if3 .taken))
 
--- src/tree.rt:72:5
 child-of-requires : tie.Need-child-of-requires
 child-of-requires c κs = search needs
 
--- src/tree.rt:57:1
 returns-4 : tie.Need-returns-4
 returns-4 c = rw (placed-as (c .before .before .before .before .before .before .before .before .before .before .before .before .args .b) (c .before .before .before .before .before .before .before .before .before .before .before .before .args .m .now) (c .before .before .before .before .before .before .before .before .before .before .before .before .args .c .0) (c .before .before .before .before .before .before .before .before .before .before .parent .ensures) (c .before .before .before .before .before .before .before .before .before .read-word .ensures), yes (c .before .before .before .before .before .before .before .before .virtual-address .ensures) (c .before .before .before .before .before .before .before .if1 .left), unequal (c .before .before .before .before .before .before .table-for .ensures) refl (c .before .before .before .before .before .if2 .left), yes (c .before .before .before .before .child-at .ensures) (c .before .before .before .if3 .left)) (same-eqb (c .before .before .child-of .ensures) refl)
 

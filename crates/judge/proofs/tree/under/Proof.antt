@@ -1,3 +1,4 @@
+-- `judge::tree::under` meets its contract. Assumes nothing.
 use Prim.Native.Nat.{_-_}
 use mathlib.Core.Path.{_≡_, refl, sym, ap, _∙_}
 use native.Mathlib.Omega.{arith}
@@ -14,39 +15,30 @@ Inv-loop b m p₀ left₀ p left = under b m 8 p₀ ≡ under b m left p
 abbrev μ-loop : tie.MeasureT-loop
 μ-loop b m p₀ left₀ p left = left
 
--- src/tree.rt:82:5
 loop-holds : tie.Need-loop-holds Inv-loop μ-loop
 loop-holds c = refl
 
--- src/tree.rt:84:13
 returns : tie.Need-returns Inv-loop μ-loop
 returns c = under-root (c .before .before .before .before .args .b) (c .before .before .before .before .args .m .now) (c .before .before .loop .left) (c .before .before .loop .p) (c .if1 .taken) ∙ sym (c .before .before .loop .inv)
 
--- src/tree.rt:86:13
 placed-requires : tie.Need-placed-requires Inv-loop μ-loop
 placed-requires c κs = search needs
 
--- src/tree.rt:87:13
 returns-2 : tie.Need-returns-2 Inv-loop μ-loop
 returns-2 c = under-not (c .before .before .before .before .before .before .args .b) (c .before .before .before .before .before .before .args .m .now) (c .before .before .before .before .loop .left) (c .before .before .before .before .loop .p) (omega arith) (c .before .before .if1 .left) (no (c .before .placed .ensures) (c .if2 .taken)) ∙ sym (c .before .before .before .before .loop .inv)
 
--- src/tree.rt:89:13
 parent-requires : tie.Need-parent-requires Inv-loop μ-loop
 parent-requires c κs = search needs
 
--- src/tree.rt:90:9
 sub-left : tie.Need-sub-left Inv-loop μ-loop
 sub-left c = search needs
 
--- src/tree.rt:82:5
 loop-less : tie.Need-loop-less Inv-loop μ-loop
 loop-less c = search needs
 
--- src/tree.rt:82:5
 loop-again : tie.Need-loop-again Inv-loop μ-loop
 loop-again c = c .before .before .before .before .before .loop .inv ∙ under-up (c .before .before .before .before .before .before .before .args .b) (c .before .before .before .before .before .before .before .args .m .now) (c .before .before .before .before .before .loop .left) (c .before .before .before .before .before .loop .p) (omega arith) (c .before .before .before .if1 .left) (yes (c .before .before .placed .ensures) (c .before .if2 .left)) ∙ ap (under (c .before .before .before .before .before .before .before .args .b) (c .before .before .before .before .before .before .before .args .m .now) (c .before .before .before .before .before .loop .left - 1)) (sym (c .parent .ensures))
 
--- src/tree.rt:76:1
 returns-3 : tie.Need-returns-3 Inv-loop μ-loop
 returns-3 c = sym (c .before .loop .inv ∙ under-end (c .before .before .before .args .b) (c .before .before .before .args .m .now) (c .before .loop .left) (c .before .loop .p) (omega arith))
 
