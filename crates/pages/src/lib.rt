@@ -1,5 +1,6 @@
 // Words, addresses and tables, for every index width b: the only code that shifts or multiplies by it.
 pub mod addresses;
+pub mod counts;
 pub mod entries;
 pub mod mappings;
 pub mod partitions;
@@ -20,6 +21,7 @@ pub use addresses::page_of;
 pub use addresses::place;
 pub use addresses::table_index;
 pub use addresses::virtual_page;
+pub use counts::count_of;
 pub use entries::accessible;
 pub use entries::entry_of;
 pub use entries::has_rights;
@@ -46,6 +48,7 @@ pub use parts::copy;
 pub use parts::fill_page;
 pub use parts::least;
 pub use parts::wipe_page;
+pub use parts::words_of;
 pub use sizes::flat_pages;
 pub use sizes::threes_for;
 pub use tables::put_table_word;

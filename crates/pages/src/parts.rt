@@ -6,7 +6,7 @@ ghost use mathlib.Core.Path.{_≡_};
 ghost use Prim.Native.Nat.{min, _≤_};
 ghost use lib.ListN.{length, replicate};
 ghost use Rattle.memory.specs.Geometry.{pageWords};
-ghost use Rattle.memory.specs.Words.{overwrite, wipe, fill};
+ghost use Rattle.memory.specs.Words.{page, overwrite, wipe, fill};
 ghost use Rattle.pages.specs.Width.{Width};
 
 // The smaller of two indices.
@@ -14,6 +14,16 @@ pub fn least(x: usize, y: usize) -> usize
     ensures { λ r. ⌜ r ≡ min x y ⌝ }
 {
     if x <= y { x } else { y }
+}
+
+// Page p as its own part; what lies past the end of the memory is left out.
+pub fn words_of(b: u32, m: &[u32], p: PhysicalPage) -> &[u32]
+    requires { ⌜ Width b ⌝ }
+    ensures { λ r. ⌜ now r ≡ page b (now (m .entry)) (p .0) ⌝ }
+{
+    let a = least(index(b, p, 0), m.len());
+    let e = least(index(b, p, page_words(b)), m.len());
+    &m[a..e]
 }
 
 // Every word of a part is 0.
