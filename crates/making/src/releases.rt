@@ -56,21 +56,25 @@ fn release_run(b: u32, m: &mut [u32], d: PhysicalPage, c: u32, v: VirtualPage, n
     }
 }
 
-// The virtual pages of directory index i, if there is a table.
+// The virtual pages of directory index i, if there is a table and c stands in it.
 fn release_table(b: u32, m: &mut [u32], d: PhysicalPage, c: u32, i: u32)
     requires { ⌜ Width b ⌝ }
     requires inside { ⌜ (i < pageWords b) × (0 < c) ⌝ }
     ensures { λ r. ⌜ now (m .exit) ≡ releaseAll b (pageWords b) (i * pageWords b) (now (m .entry)) (d .0) c ⌝ }
 {
     let s = pages::shadow1(b, m, d);
-    if pages::read_word(b, m, s, i) == 0 {
+    let w = pages::read_word(b, m, s, i);
+    if w == 0 {
         return;
     }
-    let w = pages::page_words(b);
-    release_run(b, m, d, c, VirtualPage(i * w), w);
+    if pages::count_of(pages::words_of(b, m, pages::page_of(b, w)), c) == 0 {
+        return;
+    }
+    let k = pages::page_words(b);
+    release_run(b, m, d, c, VirtualPage(i * k), k);
 }
 
-// All pages lent to the child at c. Only tables that exist are looked at.
+// All pages lent to the child at c. Only tables that exist are looked at, and only those in which c stands are gone through.
 pub fn release_all(b: u32, m: &mut [u32], d: PhysicalPage, c: u32)
     requires { ⌜ Width b ⌝ }
     requires some { ⌜ 0 < c ⌝ }

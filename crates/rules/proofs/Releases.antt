@@ -1,23 +1,24 @@
 -- Pages taken, returned and released, turn by turn, as loops take them. Assumes nothing.
-use mathlib.Core.Path.{_≡_, refl, ap, ap₂, _∙_, subst}
+use mathlib.Core.Path.{_≡_, refl, sym, ap, ap₂, _∙_, subst}
 use mathlib.Core.Logic.{_≢_}
 use mathlib.Core.List.{List}
-use mathlib.Core.Bool.{cond}
+use mathlib.Core.Bool.{Bool, true, false, cond}
 use Prim.Native.Nat.{ℕ, zero, suc, _+_, _-_, _*_, _≤_, _<_}
 use native.Mathlib.Nat.{mul-le-mul, mul-le-mul-right, mul-lt-mul-of-pos-right, lt-of-lt-of-le, zero-mul, suc-mul}
 use native.Mathlib.Omega.{arith}
+use native.Mathlib.Decide.{decLt}
 use native.Mathlib.Numerals.{add-one}
 use borrow.Author.Tests.{eq-eqb, ne-eqb}
 use lib.Dec.{eqb}
-use lib.Pow.{pow-mono}
-use lib.ListN.{length, getD, drop, drop-of-length-le}
-use lib.Seq.{drop-cons}
-use Rattle.memory.specs.Geometry.{pageWords, address, pageOf, directoryIndex}
-use Rattle.memory.specs.Words.{word}
+use lib.Pow.{pow-mono, high, low}
+use lib.ListN.{length, getD, drop, length-take, drop-of-length-le, List·getD-eq-default}
+use lib.Seq.{drop-cons, getD-take, getD-drop}
+use Rattle.walk.specs.Lists.{count, count-at}
+use Rattle.memory.specs.Geometry.{pageWords, address, pageOf}
+use Rattle.memory.specs.Words.{start, word, page}
 use Rattle.memory.specs.Entry.{accessible}
-use Rattle.memory.specs.Partition.{shadow1, lent, mapping, setLent}
-use Rattle.memory.proofs.Geometry.{bytes-pos, addressEnd-is, split-directory}
-use Rattle.memory.proofs.Tables.{tableWord-absent}
+use Rattle.memory.specs.Partition.{shadow1, tableWord, lent, mapping, setLent}
+use Rattle.memory.proofs.Geometry.{bytes-pos, addressEnd-is, page-address}
 use Rattle.memory.proofs.Widths.{words-most}
 use Rattle.rules.specs.Moves.{takePage, returnPage, takeAll, returnAll}
 use Rattle.rules.specs.Effects.{release, releaseAll}
@@ -52,6 +53,20 @@ module _ (b : ℕ) (m : List ℕ) (d v : ℕ) where
   pub releasing-other : (c : ℕ) → lent b m d v ≢ c → releasing c ≡ m
   releasing-other c h = simp (ne-eqb _ _ h)
 
+module _ (b : ℕ) (m : List ℕ) (p : ℕ) where
+  -- a page as the part s: its words can be counted in 32 bits
+  pub page-fits : {s : List ℕ} → s ≡ page b m p → b ≤ 10 → length s < 4294967296
+  page-fits e h = subst (λ (t : List ℕ). length t < 4294967296) (sym e) (omega (arith, length-take (pageWords b) (drop (start b p) m), words-most b h))
+
+  -- a word of a page that is not 0 counts among the page's words
+  word-counted : (j x : ℕ) → j < pageWords b → 0 < x → word b m p j ≡ x → 0 < count x (page b m p)
+  word-counted j x h k e =
+      let f : getD (page b m p) j 0 ≡ x = getD-take (pageWords b) (drop (start b p) m) j 0 h ∙ getD-drop (start b p) m j 0 ∙ e in
+      elim (decLt j (length (page b m p))) [
+        | yes l ↦ count-at x (page b m p) j l f
+        | no l ↦ absurd (omega (arith, List·getD-eq-default (page b m p) 0 {n = j} (omega arith)))
+      ]
+
 module _ (b d c : ℕ) where
   pub releaseAll-more : (m : List ℕ) (n i k : ℕ) → k < n
       → releaseAll b (n - k) (i + k) m d c ≡ releaseAll b (n - (k + 1)) (i + (k + 1)) (releasing b m d (address b (i + k)) c) d c
@@ -79,29 +94,35 @@ module _ (b d c : ℕ) where
       ∙ releaseAll-add (releasing b m d (address b i) c) n k (suc i)
       ∙ ap (λ (x : ℕ). releaseAll b k x (releaseAll b (suc n) i m d c) d c) f
 
-  -- a directory index without a table: nothing is lent there
-  absent-lent : (m : List ℕ) (i j : ℕ) → word b m (shadow1 b m d) i ≡ 0 → j < pageWords b → lent b m d (address b (i * pageWords b + j)) ≡ 0
-  absent-lent m i j e h =
-      let v = address b (i * pageWords b + j) in
-      let z : directoryIndex b (pageOf b v) ≡ i = ap (λ (x : ℕ). directoryIndex b (pageOf b x)) plus ∙ split-directory b i j 0 h (bytes-pos b) in
-      tableWord-absent b m (shadow1 b m d) (pageOf b v) (ap (λ (x : ℕ). word b m (shadow1 b m d) x) z ∙ e)
-    where
-      plus : address b (i * pageWords b + j) ≡ address b (i * pageWords b + j) + 0
-      plus = omega arith
-
-  absent-run : (m : List ℕ) (i n j : ℕ) → word b m (shadow1 b m d) i ≡ 0 → 0 < c → n + j ≤ pageWords b → releaseAll b n (i * pageWords b + j) m d c ≡ m
+  -- n pages from v on, none of which is lent to the child
+  releaseAll-others : (m : List ℕ) (n v : ℕ) → ((j : ℕ) → j < n → lent b m d (address b (v + j)) ≢ c) → releaseAll b n v m d c ≡ m
   unfolding releaseAll
-  absent-run m i zero j e h l = refl
-  absent-run m i (suc n) j e h l =
-      let f : suc (i * pageWords b + j) ≡ i * pageWords b + suc j = omega arith in
-      let z : lent b m d (address b (i * pageWords b + j)) ≢ c = λ q. absurd (omega (arith, absent-lent m i j e (omega arith))) in
-      ap₂ (λ (x : ℕ) (y : List ℕ). releaseAll b n x y d c) f (releasing-other b m d (address b (i * pageWords b + j)) c z)
-      ∙ absent-run m i n (suc j) e h (omega arith)
+  releaseAll-others m zero v h = refl
+  releaseAll-others m (suc n) v h =
+      ap (λ (y : List ℕ). releaseAll b n (suc v) y d c) (releasing-other b m d (address b v) c (at 0 v (omega arith) (omega arith)))
+      ∙ releaseAll-others m n (suc v) (λ j l. at (suc j) (suc v + j) (omega arith) (omega arith))
+    where
+      at : (j x : ℕ) → j < suc n → v + j ≡ x → lent b m d (address b x) ≢ c
+      at j x l e = subst (λ (y : ℕ). lent b m d (address b y) ≢ c) e (h j l)
 
+  -- the shadow 1 word of virtual page i·W + j, from the root's word at index i
+  lent-at : (m : List ℕ) (i j : ℕ) → j < pageWords b
+      → lent b m d (address b (i * pageWords b + j)) ≡ cond (eqb (word b m (shadow1 b m d) i) 0) 0 (word b m (pageOf b (word b m (shadow1 b m d) i)) j)
+  unfolding tableWord
+  lent-at m i j h = rw (page-address b (i * pageWords b + j), high i b h, low i b h)
+
+  -- a directory index without a table: nothing is lent there
   pub releaseAll-absent : (m : List ℕ) (i : ℕ) → word b m (shadow1 b m d) i ≡ 0 → 0 < c → releaseAll b (pageWords b) (i * pageWords b) m d c ≡ m
-  releaseAll-absent m i e h =
-      let f : i * pageWords b ≡ i * pageWords b + 0 = omega arith in
-      ap (λ (x : ℕ). releaseAll b (pageWords b) x m d c) f ∙ absent-run m i (pageWords b) 0 e h (omega arith)
+  releaseAll-absent m i e h = releaseAll-others m (pageWords b) (i * pageWords b) (λ j l q. absurd (omega (arith, rw (lent-at m i j l, eq-eqb _ 0 e) at q)))
+
+  -- a table in which the child's address stands nowhere
+  pub releaseAll-uncounted : (m : List ℕ) (i : ℕ) → count c (page b m (pageOf b (word b m (shadow1 b m d) i))) ≡ 0 → 0 < c
+      → releaseAll b (pageWords b) (i * pageWords b) m d c ≡ m
+  releaseAll-uncounted m i e h = releaseAll-others m (pageWords b) (i * pageWords b) (λ j l q. other j l (eqb (word b m (shadow1 b m d) i) 0) (sym (lent-at m i j l) ∙ q))
+    where
+      other : (j : ℕ) → j < pageWords b → (t : Bool) → cond t 0 (word b m (pageOf b (word b m (shadow1 b m d) i)) j) ≢ c
+      other j l true q = omega arith
+      other j l false q = absurd (omega (arith, word-counted b m (pageOf b (word b m (shadow1 b m d) i)) j c l h q))
 
   -- table by table: those from index i on
   abbrev pub releaseFrom : ℕ → List ℕ → List ℕ
