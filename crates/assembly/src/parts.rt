@@ -1,7 +1,7 @@
 // Lines and words, as parts of the text.
 ghost use mathlib.Core.Path.{_≡_};
 ghost use Prim.Native.Nat.{_+_, _≤_, _<_};
-ghost use lib.ListN.{length, take, drop};
+ghost use lib.ListN.{length};
 ghost use Rattle.assembly.specs.Text.{before, blank, split};
 ghost use Rattle.assembly.specs.Steps;
 ghost use Rattle.assembly.specs.Steps.{NextWord, LineAt, isKind};

@@ -7,7 +7,7 @@ use Rattle.memory.specs.Geometry.{pageOf, threesFor, flatPages, mostDepth}
 use Rattle.memory.specs.Entry.{accessible}
 use Rattle.memory.specs.Partition.{current, mapping}
 use Rattle.memory.specs.Tree.{Has, Child, InTree}
-use Rattle.memory.specs.Uses.{Way, five, listed, inHand, Use}
+use Rattle.memory.specs.Uses.{Way, five, listed, Use}
 use Rattle.memory.specs.Sound.{Sound}
 use Rattle.memory.specs.Counts.{inHandCount, kernelCount}
 use Rattle.rules.specs.Row.{no}

@@ -1,8 +1,11 @@
 pub mod Search
+pub mod Blocks
 pub mod Run
+pub mod Counts
 pub mod Rows
 pub mod Sweeps
 pub mod Walks
+pub mod Tally
 pub mod Order
 pub mod Numbers
 pub mod Marks

@@ -1,3 +1,4 @@
 pub mod Search
 pub mod Run
 pub mod Rows
+pub mod Blocks

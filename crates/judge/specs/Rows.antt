@@ -21,10 +21,6 @@ virtualPages b = pageWords b * pageWords b
 abbrev pub used : List ℕ → ℕ → Bool
 used s i = not (eqb (getD s i 0) 0)
 
--- one of three is not
-abbrev pub anyUsed : List ℕ → List ℕ → List ℕ → ℕ → Bool
-anyUsed r s t i = not (eqb (getD r i 0) 0 && eqb (getD s i 0) 0 && eqb (getD t i 0) 0)
-
 -- the table that a word of a directory or a shadow names: none, or the words of a page
 unfoldable pub table : ℕ → List ℕ → ℕ → List ℕ
 table b m w = cond (eqb w 0) [] (page b m (pageOf b w))

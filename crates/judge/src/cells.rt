@@ -1,9 +1,9 @@
 // The three table words of a partition at one address: w of the page table, x of shadow 1, y of shadow 2.
 use crate::children::child_at;
 use crate::rows::address_of;
+use crate::rows::empty_block;
 use crate::rows::next_word;
 use crate::rows::table_of;
-use crate::rows::words_of;
 use forms::child_forms;
 use forms::entry_test;
 use forms::virtual_address;
@@ -24,18 +24,19 @@ use pages::shadow2;
 use pages::table_for;
 use pages::table_word;
 use pages::virtual_page;
+use pages::words_of;
 ghost use mathlib.Core.Path.{_≡_};
-ghost use mathlib.Core.Bool.{true, cond, _||_};
-ghost use Prim.Native.Nat.{_+_, _-_, _≤_, _<_};
+ghost use mathlib.Core.Bool.{true, cond, _&&_, _||_};
+ghost use Prim.Native.Nat.{_+_, _≤_, _<_};
 ghost use lib.Dec.{leb, eqb};
 ghost use lib.ListN.{length, getD};
 ghost use Rattle.walk.specs.Finite.{from, all};
 ghost use Rattle.memory.specs.Geometry.{pageWords, address};
 ghost use Rattle.memory.specs.Counts.{tabled};
 ghost use Rattle.judging.specs.Quick;
-ghost use Rattle.judge.specs.Search.{seek};
 ghost use Rattle.judge.specs.Run.{run, asking};
-ghost use Rattle.judge.specs.Rows.{virtualPages, anyUsed, Lends, fromWords, lentWord, Passed, shadow1Word, cellWords};
+ghost use Rattle.judge.specs.Rows.{virtualPages, Lends, fromWords, lentWord, Passed, shadow1Word, cellWords};
+ghost use Rattle.judge.specs.Blocks.{emptyBlock};
 ghost use Rattle.pages.specs.Width.{Width};
 
 // A parent as the lender of its child's pages: its directory and shadow 1, and the child's address there.
@@ -177,28 +178,46 @@ pub fn cell(
     origin(b, m, d, p, w, y)
 }
 
-// The first place from i on, below n, at which one of the three words is not 0.
-fn next_cell(pt: &[u32], s1: &[u32], s2: &[u32], n: usize, i: usize) -> usize
-    requires { ⌜ (n ≤ length (now pt)) × (n ≤ length (now s1)) × (n ≤ length (now s2)) ⌝ }
-    ensures { λ r. ⌜ r ≡ seek (anyUsed (now (pt .entry)) (now (s1 .entry)) (now (s2 .entry))) (n - i) i ⌝ }
-{
-    let mut j = i;
-    while j < n {
-        if pt[j] != 0 {
-            return j;
-        }
-        if s1[j] != 0 {
-            return j;
-        }
-        if s2[j] != 0 {
-            return j;
-        }
-        j += 1;
-    }
-    j
+// The three words at place j, which lie below n in all three tables but where a table is cut short.
+struct Words {
+    w: u32,
+    x: u32,
+    y: u32,
 }
 
-// A row, from virtual page v on. Places at which all three words are 0 are passed over.
+fn words_at(pt: &[u32], s1: &[u32], s2: &[u32], n: usize, j: usize) -> Words
+    requires { ⌜ (n ≤ length (now pt)) × (n ≤ length (now s1)) × (n ≤ length (now s2)) ⌝ }
+    ensures { λ r. ⌜ (r .w ≡ getD (now (pt .entry)) j 0) × (r .x ≡ getD (now (s1 .entry)) j 0) × (r .y ≡ getD (now (s2 .entry)) j 0) ⌝ }
+{
+    if j < n {
+        return Words {
+            w: pt[j],
+            x: s1[j],
+            y: s2[j],
+        };
+    }
+    Words {
+        w: read(pt, j),
+        x: read(s1, j),
+        y: read(s2, j),
+    }
+}
+
+// A block in which the words of all three are 0.
+fn empty_cells(pt: &[u32], s1: &[u32], s2: &[u32], n: usize, i: usize) -> bool
+    requires { ⌜ (n ≤ length (now pt)) × (n ≤ length (now s1)) × (n ≤ length (now s2)) × (i + 8 < 18446744073709551616) ⌝ }
+    ensures { λ r. ⌜ r ≡ (emptyBlock (now (pt .entry)) n i && emptyBlock (now (s1 .entry)) n i && emptyBlock (now (s2 .entry)) n i) ⌝ }
+{
+    if !empty_block(pt, n, i) {
+        return false;
+    }
+    if !empty_block(s1, n, i) {
+        return false;
+    }
+    empty_block(s2, n, i)
+}
+
+// A row, from virtual page v on. Blocks without a word are passed over.
 pub fn cells_row(
     b: u32,
     m: &[u32],
@@ -221,24 +240,18 @@ pub fn cells_row(
     let n = least(pt.len(), least(s1.len(), s2.len()));
     let end = page_words(b) as usize;
     let mut to: u32 = 0;
-    let mut j = next_cell(pt, s1, s2, n, 0);
+    let mut j = 0;
     while j < end {
-        let x = read(s1, j);
-        if !cell(
-            b,
-            m,
-            d,
-            p,
-            VirtualPage(v.0 + (j as u32)),
-            read(pt, j),
-            x,
-            read(s2, j),
-            to,
-        ) {
-            return false;
+        if empty_cells(pt, s1, s2, n, j) {
+            j += 8;
+        } else {
+            let c = words_at(pt, s1, s2, n, j);
+            if !cell(b, m, d, p, VirtualPage(v.0 + (j as u32)), c.w, c.x, c.y, to) {
+                return false;
+            }
+            to = last_lent(c.x, to);
+            j += 1;
         }
-        to = last_lent(x, to);
-        j = next_cell(pt, s1, s2, n, j + 1);
     }
     true
 }

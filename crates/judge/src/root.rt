@@ -1,12 +1,12 @@
 // "Root's descriptor, directory, shadow roots and list are as format leaves them; it maps exactly the flat pages, with all rights and shadow 2 words 0."
 use crate::rows::next_word;
 use crate::rows::table_of;
-use crate::rows::words_of;
 use forms::root_pages;
 use pages::PhysicalPage;
 use pages::VirtualPage;
 use pages::directory;
 use pages::flat_pages;
+use pages::least;
 use pages::page_of;
 use pages::page_words;
 use pages::pages;
@@ -14,15 +14,16 @@ use pages::read;
 use pages::rights;
 use pages::shadow2;
 use pages::threes_for;
+use pages::words_of;
 ghost use mathlib.Core.Path.{_≡_};
 ghost use mathlib.Core.Bool.{true};
 ghost use Prim.Native.Nat.{_+_, _≤_, _<_};
-ghost use lib.ListN.{getD};
+ghost use lib.ListN.{length, getD};
 ghost use Rattle.walk.specs.Finite.{from, all};
 ghost use Rattle.memory.specs.Geometry.{pageWords};
 ghost use Rattle.memory.specs.Counts.{tabled};
 ghost use Rattle.soundness.specs.Test.{rootMapTest, rootTest};
-ghost use Rattle.judge.specs.Run.{run, asking};
+ghost use Rattle.judge.specs.Run.{run, asking, bit};
 ghost use Rattle.judge.specs.Rows.{virtualPages, rootWords};
 ghost use Rattle.pages.specs.Width.{Width};
 
@@ -47,19 +48,42 @@ pub fn root_cell(b: u32, first: u32, flat: u32, v: VirtualPage, w: u32, y: u32) 
     rights(w) == 7
 }
 
-// A row of the root, from virtual page v on.
+// 1 where they pass.
+fn root_bit(b: u32, first: u32, flat: u32, v: VirtualPage, w: u32, y: u32) -> u32
+    requires { ⌜ Width b ⌝ }
+    requires page { ⌜ first + v .0 < 4294967296 ⌝ }
+    ensures { λ r. ⌜ (r ≡ bit (rootWords b first flat (v .0) w y)) × (r ≤ 1) ⌝ }
+{
+    if root_cell(b, first, flat, v, w, y) {
+        return 1;
+    }
+    0
+}
+
+// A row of the root, from virtual page v on. The places that both tables have are counted without a branch.
 pub fn root_row(b: u32, first: u32, flat: u32, v: VirtualPage, pt: &[u32], s2: &[u32]) -> bool
     requires { ⌜ Width b ⌝ }
     requires row { ⌜ v .0 + pageWords b ≤ virtualPages b ⌝ }
     requires page { ⌜ first + virtualPages b ≤ 4294967296 ⌝ }
+    requires short { ⌜ length (now pt) ≤ pageWords b ⌝ }
     ensures { λ r.
         ⌜
         r
         ≡ run (asking (λ j. rootWords b first flat (v .0 + j) (getD (now (pt .entry)) j 0) (getD (now (s2 .entry)) j 0))) true (from (pageWords b) 0)
         ⌝ }
 {
+    let n = least(pt.len(), s2.len());
+    let mut k: u32 = 0;
+    let mut i = 0;
+    while i < n {
+        k += root_bit(b, first, flat, VirtualPage(v.0 + (i as u32)), pt[i], s2[i]);
+        i += 1;
+    }
+    if (k as usize) < n {
+        return false;
+    }
     let end = page_words(b);
-    let mut j: u32 = 0;
+    let mut j: u32 = n as u32;
     while j < end {
         if !root_cell(
             b,

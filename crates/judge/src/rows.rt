@@ -1,29 +1,17 @@
-// The words of a page and of a table, each lent as its own part of the memory, and the next that is not 0 among them.
-use pages::PhysicalPage;
+// The words of a table, lent as its own part of the memory; the next that is not 0 among such words, and blocks of eight of them.
 use pages::VirtualPage;
-use pages::index;
-use pages::least;
+use pages::count_of;
 use pages::page_bytes;
 use pages::page_of;
-use pages::page_words;
+use pages::words_of;
 ghost use mathlib.Core.Path.{_≡_};
-ghost use Prim.Native.Nat.{_-_, _≤_, _<_};
+ghost use Prim.Native.Nat.{_+_, _-_, _≤_, _<_};
 ghost use lib.ListN.{length};
 ghost use Rattle.memory.specs.Geometry.{address};
-ghost use Rattle.memory.specs.Words.{page};
 ghost use Rattle.judge.specs.Search.{seek};
 ghost use Rattle.judge.specs.Rows.{virtualPages, table, used};
+ghost use Rattle.judge.specs.Blocks.{blockAt, emptyBlock};
 ghost use Rattle.pages.specs.Width.{Width};
-
-// Page p; what lies past the end of the memory is left out.
-pub fn words_of(b: u32, m: &[u32], p: PhysicalPage) -> &[u32]
-    requires { ⌜ Width b ⌝ }
-    ensures { λ r. ⌜ now r ≡ page b (now (m .entry)) (p .0) ⌝ }
-{
-    let a = least(index(b, p, 0), m.len());
-    let e = least(index(b, p, page_words(b)), m.len());
-    &m[a..e]
-}
 
 // The table that the word w of a directory or a shadow names; an absent one has no words.
 pub fn table_of(b: u32, m: &[u32], w: u32) -> &[u32]
@@ -64,6 +52,28 @@ pub fn next_word(s: &[u32], i: usize) -> usize
         j += 1;
     }
     j
+}
+
+// Eight places from i on, all below n, at every eighth place.
+pub fn block_at(n: usize, i: usize) -> bool
+    requires { ⌜ i + 8 < 18446744073709551616 ⌝ }
+    ensures { λ r. ⌜ r ≡ blockAt n i ⌝ }
+{
+    if i % 8 != 0 {
+        return false;
+    }
+    i + 8 <= n
+}
+
+// A block in which all words are 0.
+pub fn empty_block(s: &[u32], n: usize, i: usize) -> bool
+    requires { ⌜ (n ≤ length (now s)) × (i + 8 < 18446744073709551616) ⌝ }
+    ensures { λ r. ⌜ r ≡ emptyBlock (now (s .entry)) n i ⌝ }
+{
+    if !block_at(n, i) {
+        return false;
+    }
+    count_of(&s[i..i + 8], 0) == 8
 }
 
 // The address of a virtual page.

@@ -1,17 +1,19 @@
 // One sweep over the rows of a partition's tables, in which the pages in its hand are marked and all that is counted there is counted; and what its parent
 // lends to it.
 use crate::marks::mark_hand;
+use crate::rows::empty_block;
 use crate::rows::next_word;
 use crate::rows::table_of;
-use crate::rows::words_of;
 use pages::PhysicalPage;
 use pages::accessible;
+use pages::count_of;
 use pages::directory;
 use pages::page_of;
 use pages::page_words;
 use pages::read;
 use pages::shadow1;
 use pages::threes;
+use pages::words_of;
 ghost use mathlib.Core.Path.{_≡_};
 ghost use mathlib.Core.Bool.{true, not};
 ghost use mathlib.Core.Option.{some};
@@ -86,22 +88,28 @@ pub fn tally_row(b: u32, m: &[u32], seen: &mut [u8], pt: &[u32], s1: &[u32]) -> 
     let mut mapped: u32 = 0;
     let mut shut: u32 = 0;
     let mut due: u64 = 0;
-    let mut j = next_word(pt, 0);
+    let mut j = 0;
     while j < pt.len() {
         let w = pt[j];
-        let x = read(s1, j);
-        if !mark_hand(b, seen, w, x) {
-            return Swept {
-                marked: false,
-                mapped,
-                shut,
-                due,
-            };
+        if empty_block(pt, pt.len(), j) {
+            j += 8;
+        } else if w == 0 {
+            j += 1;
+        } else {
+            let x = read(s1, j);
+            if !mark_hand(b, seen, w, x) {
+                return Swept {
+                    marked: false,
+                    mapped,
+                    shut,
+                    due,
+                };
+            }
+            mapped += 1;
+            shut += shut_bit(w, x);
+            due += due_pages(b, m, w, x);
+            j += 1;
         }
-        mapped += 1;
-        shut += shut_bit(w, x);
-        due += due_pages(b, m, w, x);
-        j = next_word(pt, j + 1);
     }
     Swept {
         marked: true,
@@ -149,30 +157,15 @@ pub fn tally(b: u32, m: &[u32], seen: &mut [u8], d: PhysicalPage) -> Swept
     }
 }
 
-fn same_bit(x: u32, y: u32) -> u32
-    ensures { λ r. ⌜ (r ≡ bit (eqb x y)) × (r ≤ 1) ⌝ }
-{
-    if x == y {
-        return 1;
-    }
-    0
-}
-
 // How many words of a row's shadow 1 table s1 are v; those past its end count as 0.
 pub fn lent_row(b: u32, s1: &[u32], v: u32) -> u32
     requires { ⌜ Width b ⌝ }
     requires short { ⌜ length (now s1) ≤ pageWords b ⌝ }
     ensures { λ r. ⌜ (r ≡ run (adding (λ j. bit (eqb (getD (now (s1 .entry)) j 0) v))) 0 (from (pageWords b) 0)) × (r ≤ 1024) ⌝ }
 {
-    let n = s1.len() as u32;
-    let mut k: u32 = 0;
-    let mut j = 0;
-    while j < s1.len() {
-        k += same_bit(s1[j], v);
-        j += 1;
-    }
+    let k = count_of(s1, v);
     if v == 0 {
-        return k + (page_words(b) - n);
+        return k + (page_words(b) - (s1.len() as u32));
     }
     k
 }

@@ -2,7 +2,7 @@
 use mathlib.Core.Path.{_≡_, refl, sym, ap, _∙_}
 use mathlib.Core.Logic.{_≢_}
 use mathlib.Core.Bool.{cond}
-use mathlib.Core.List.{List, [], _∷_, map}
+use mathlib.Core.List.{List, [], _∷_}
 use Prim.Native.Nat.{ℕ, zero, suc, _+_, _-_, _≤_, _<_}
 use native.Mathlib.Nat.{sub-zero}
 use native.Mathlib.Numerals.{add-one}
@@ -11,7 +11,6 @@ use lib.ListN.{length, set}
 use Rattle.memory.specs.Words.{overwrite}
 use Rattle.rules.specs.Call.{Call}
 use Rattle.rules.specs.Calls.{answer, after, run, answers}
-use Rattle.claim.specs.Claim.{Demand3}
 use Rattle.claim.proofs.Demand3.{demand-3}
 use Rattle.answers.specs.Packed.{packed}
 use Rattle.kernel.specs.Sequence.{callAt, endAt, whole, callsFrom}

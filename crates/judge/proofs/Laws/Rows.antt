@@ -3,12 +3,12 @@ use mathlib.Core.Path.{_≡_, refl, sym, ap, _∙_, subst}
 use mathlib.Core.List.{List, []}
 use mathlib.Core.Bool.{Bool, true, false, cond, not, false≢true}
 use mathlib.Core.Logic.{_≢_}
-use Prim.Native.Nat.{ℕ, min, _+_, _-_, _*_, _%_, _≤_, _<_}
+use Prim.Native.Nat.{ℕ, _+_, _-_, _*_, _%_, _≤_, _<_}
 use native.Mathlib.Omega.{arith}
 use native.Mathlib.Decide.{decLe}
 use lib.Dec.{eqb}
-use lib.ListN.{length, getD, take, drop, length-take, length-drop, drop-of-length-le, List·getD-eq-default}
-use lib.Seq.{getD-take, getD-drop, take-all, take-nil}
+use lib.ListN.{length, getD, drop, length-take, List·getD-eq-default}
+use lib.Seq.{getD-take, getD-drop}
 use lib.Pow.{high, low}
 use borrow.Author.Tests.{eq-eqb, ne-eqb, eqb-true, not-false, not-true}
 use Rattle.walk.specs.Finite.{from, image}
@@ -22,24 +22,6 @@ use Rattle.judge.specs.Run.{run, asking}
 use Rattle.judge.specs.Rows.{table, used}
 use Rattle.judge.proofs.Laws.Run.{run-stuck, run-flat, run-image, run-same, run-next, run-skip, run-start, run-end}
 use Rattle.judge.proofs.Laws.Search.{sought}
-
--- ---- a part of the memory, from s on, n words or as many as there are
-
-pub part-is : (m : List ℕ) (s n : ℕ) {a e : ℕ} → a ≡ min s (length m) → e ≡ min (s + n) (length m) → take (e - a) (drop a m) ≡ take n (drop s m)
-part-is m s n {a} {e} p q = pick (decLe s (length m)) (decLe (s + n) (length m))
-  where
-    pick : Dec (s ≤ length m) → Dec (s + n ≤ length m) → take (e - a) (drop a m) ≡ take n (drop s m)
-    pick (yes l) (yes t) =
-        let z : a ≡ s = omega arith in
-        let y : e - a ≡ n = omega arith in
-        ap (λ (i : ℕ). take (e - a) (drop i m)) z ∙ ap (λ (k : ℕ). take k (drop s m)) y
-    pick (yes l) (no t) =
-        let z : a ≡ s = omega arith in
-        ap (λ (i : ℕ). take (e - a) (drop i m)) z
-        ∙ take-all (e - a) (drop s m) (omega (arith, length-drop s m))
-        ∙ sym (take-all n (drop s m) (omega (arith, length-drop s m)))
-    pick (no l) t =
-        ap (take (e - a)) (drop-of-length-le m {i = a} (omega arith)) ∙ take-nil (e - a) ∙ sym (ap (take n) (drop-of-length-le m {i = s} (omega arith)) ∙ take-nil n)
 
 past : (s : List ℕ) (i : ℕ) → length s ≤ i → getD s i 0 ≡ 0
 past s i h = List·getD-eq-default s 0 h
@@ -93,7 +75,10 @@ module _ (b : ℕ) (m : List ℕ) where
       go true = omega arith
       go false = page-short (pageOf b w)
 
-  -- a page lent as the part s
+  -- a table and a page, lent as the part s
+  pub part-short : {s : List ℕ} (w : ℕ) → s ≡ table b m w → length s ≤ pageWords b
+  part-short w e = subst (λ (t : List ℕ). length t ≤ pageWords b) (sym e) (table-short w)
+
   pub dir-short : {s : List ℕ} (p : ℕ) → s ≡ page b m p → length s ≤ pageWords b
   dir-short p e = subst (λ (t : List ℕ). length t ≤ pageWords b) (sym e) (page-short p)
 

@@ -152,6 +152,21 @@ each-run f g p (x ∷ xs) s = go (p x) (each-run f g p xs)
     go true ih = after ih (f s (g x))
     go false ih = ih s
 
+-- a test at each that counts those that pass, c of the first i of k; o is what the test of all comes to
+abbrev pub Counted : Bool → (ℕ → Bool) → ℕ → ℕ → ℕ → Type 0
+Counted o p k i c = (c ≤ i) × (c ≡ i → o ≡ run (asking p) true (from (k - i) i)) × (c < i → false ≡ o)
+
+pub counted-next : {o : Bool} (p : ℕ → Bool) (k i : ℕ) {c r : ℕ} → i < k → r ≡ bit (p i) → Counted o p k i c → Counted o p k (i + 1) (c + r)
+counted-next {o} p k i {c} {r} h q (a, e, f) = go (p i) (run-next (asking p) k i h true) q
+  where
+    go : (t : Bool) → run (asking p) true (from (k - i) i) ≡ run (asking p) t (from (k - (i + 1)) (i + 1)) → r ≡ bit t → Counted o p k (i + 1) (c + r)
+    go true s z = (omega arith, (λ y. e (omega arith) ∙ s), λ y. f (omega arith))
+    go false s z = (
+      omega arith,
+      (λ y. absurd (omega arith)),
+      (λ y. elim (decLt c i) [ yes l ↦ f l | no l ↦ sym (e (omega arith) ∙ s ∙ run-stuck (asking p) false (λ x. refl) (from (k - (i + 1)) (i + 1))) ]),
+    )
+
 -- a test at each: x is what the code was told at i, o what the whole comes to
 module _ {o : Bool} (p : ℕ → Bool) (k i : ℕ) where
   pub ask-next : {x : Bool} → i < k → x ≡ p i → not x ≡ false → o ≡ run (asking p) true (from (k - i) i) → o ≡ run (asking p) true (from (k - (i + 1)) (i + 1))

@@ -60,6 +60,18 @@ module _ (p : ℕ → Bool) where
   unfolding seek
   seek-end k i h = let q : k - i ≡ 0 = omega arith in ap (λ (n : ℕ). seek p n i) q
 
+  seek-run : (n k i : ℕ) → i + n ≤ k → ((x : ℕ) → i ≤ x → x < i + n → p x ≡ false) → seek p (k - i) i ≡ seek p (k - (i + n)) (i + n)
+  seek-run zero k i l h = let e : i ≡ i + zero = omega arith in ap (λ (j : ℕ). seek p (k - j) j) e
+  seek-run (suc n) k i l h =
+      let e : i + 1 + n ≡ i + suc n = omega arith in
+      seek-on k i (omega arith) (h i (omega arith) (omega arith)) ∙ seek-run n k (i + 1) (omega arith) (λ x a c. h x (omega arith) (omega arith)) ∙ ap (λ (j : ℕ). seek p (k - j) j) e
+
+  -- on past numbers at which p does not hold
+  pub seek-past : (k i r : ℕ) → i ≤ r → r ≤ k → ((x : ℕ) → i ≤ x → x < r → p x ≡ false) → seek p (k - i) i ≡ seek p (k - r) r
+  seek-past k i r a l h =
+      let e : i + (r - i) ≡ r = omega arith in
+      seek-run (r - i) k i (omega arith) (λ x c d. h x c (omega arith)) ∙ ap (λ (j : ℕ). seek p (k - j) j) e
+
   pub seek-two : (k i : ℕ) → i + 1 < k → p i ≡ false → p (i + 1) ≡ false → seek p (k - i) i ≡ seek p (k - (i + 2)) (i + 2)
   seek-two k i h e f =
       let q : i + 1 + 1 ≡ i + 2 = omega arith in

@@ -1,14 +1,12 @@
 -- The sweeps over the tables of a partition d: what each comes to as a run over its addresses, and at a row by the words of its tables. Assumes nothing.
 use mathlib.Core.Path.{_≡_, refl, sym, ap, _∙_}
 use mathlib.Core.List.{List}
-use mathlib.Core.Bool.{Bool, true, false, cond, not, _&&_, _||_, false≢true, and-comm}
-use mathlib.Core.Logic.{_≢_}
+use mathlib.Core.Bool.{Bool, true, false, not, _&&_, false≢true, and-comm}
 use mathlib.Core.Option.{Option, some}
-use Prim.Native.Nat.{ℕ, zero, suc, _+_, _-_, _*_, _≤_, _<_}
+use Prim.Native.Nat.{ℕ, _+_, _-_, _*_, _≤_, _<_}
 use native.Mathlib.Omega.{arith}
 use lib.Dec.{eqb}
-use lib.ListN.{length, getD, List·getD-eq-default}
-use borrow.Author.Tests.{eq-eqb, ne-eqb}
+use lib.ListN.{length, getD}
 use Rattle.walk.specs.Finite.{from, all}
 use Rattle.walk.specs.Marks.{Seen, each, mark, marks}
 use Rattle.memory.specs.Geometry.{pageWords, address, pageOf, threesFor, flatPages}
@@ -16,84 +14,36 @@ use Rattle.memory.specs.Words.{word, page}
 use Rattle.memory.specs.Partition.{pages, directory, shadow1, shadow2, parent, threes, mapping, lent, above, inHand}
 use Rattle.memory.specs.Counts.{row, tabled, childAt, childOf, children, handAddresses}
 use Rattle.memory.proofs.Geometry.{page-address}
-use Rattle.soundness.specs.Test.{virtual, rootMapTest, fromParent, handPages}
-use Rattle.judging.specs.Quick.{entryTest, childCell, lentCell, shadow1Cell, cell, shutCell, shutCount, dueCount, lentCount, mappedCount}
-use Rattle.judge.specs.Search.{seek}
+use Rattle.soundness.specs.Test.{rootMapTest, fromParent, handPages}
+use Rattle.judging.specs.Quick.{childCell, lentCell, shadow1Cell, cell, shutCell, shutCount, dueCount, lentCount, mappedCount}
+use Rattle.judge.specs.Blocks.{emptyBlock}
 use Rattle.judge.specs.Run.{run, adding, asking, marking, bit}
-use Rattle.judge.specs.Rows.{table, used, anyUsed, childWords, shutWords, handWords, dueWords, Lends, fromWords, shadow1Word, cellWords, rootWord, rootWords}
-use Rattle.judge.proofs.Laws.Run.{run-skip, run-end, sum-on, length-run, sums-run, all-run, each-run}
-use Rattle.judge.proofs.Laws.Search.{sought}
+use Rattle.judge.specs.Rows.{table, used, childWords, shutWords, handWords, dueWords, Lends, fromWords, cellWords, rootWord, rootWords}
+use Rattle.judge.proofs.Laws.Run.{run-skip, sum-on, length-run, sums-run, all-run, each-run}
+use Rattle.judge.proofs.Laws.Blocks.{empty-word}
 use Rattle.judge.proofs.Laws.Rows.{cell-at, row-run, rows-short}
 
--- ---- past the end of a shadow 1 table s, whose words that are v are counted
+-- ---- a place at which all three words are 0 passes, and so does a block of them
 
-ones : (s : List ℕ) (v : ℕ) → v ≡ 0 → (n i c : ℕ) → length s ≤ i → run (adding (λ j. bit (eqb (getD s j 0) v))) c (from n i) ≡ c + n
-unfolding run from
-ones s v e zero i c l = omega arith
-ones s v e (suc n) i c l =
-    let q : bit (eqb (getD s i 0) v) ≡ 1 = ap bit (eq-eqb (getD s i 0) v (List·getD-eq-default s 0 l ∙ sym e)) in
-    ap (λ (x : ℕ). run (adding (λ j. bit (eqb (getD s j 0) v))) (c + x) (from n (suc i))) q ∙ ones s v e n (suc i) (c + 1) (omega arith) ∙ omega arith
+module _ (b : ℕ) (m : List ℕ) (d v : ℕ) (r s t : List ℕ) where
+  abbrev cellOf : ℕ → Bool
+  cellOf x = cellWords b m d (address b (v + x)) (getD r x 0) (getD s x 0) (getD t x 0)
 
-lent-rest : (s : List ℕ) (k c v : ℕ) → v ≡ 0 → run (adding (λ j. bit (eqb (getD s j 0) v))) c (from (k - length s) (length s)) ≡ c + (k - length s)
-lent-rest s k c v e = ones s v e (k - length s) (length s) c (omega arith)
+  cell-empty : (x : ℕ) → getD r x 0 ≡ 0 → getD s x 0 ≡ 0 → getD t x 0 ≡ 0 → cellOf x ≡ true
+  cell-empty x e f g = rw (e, f, g) refl
 
-lent-none : (s : List ℕ) (k c v : ℕ) → v ≢ 0 → length s ≤ k → run (adding (λ j. bit (eqb (getD s j 0) v))) c (from (k - length s) (length s)) ≡ c
-lent-none s k c v e h =
-    run-skip (adding (λ j. bit (eqb (getD s j 0) v))) k (length s) k c h
-    (λ x a l. let q : bit (eqb (getD s x 0) v) ≡ 0 = ap bit (ne-eqb (getD s x 0) v (λ z. e (sym z ∙ List·getD-eq-default s 0 a))) in omega arith)
-    ∙ run-end (adding (λ j. bit (eqb (getD s j 0) v))) k k c (omega arith)
-
--- the count at the end of s, of k words with those past it
-module _ (s : List ℕ) (k c v : ℕ) {o j : ℕ} where
-  pub lent-zero : {w : ℕ} → v ≡ 0 → j ≡ length s → w ≡ k → c ≤ j → length s ≤ k → k ≤ 1024 → o ≡ run (adding (λ i. bit (eqb (getD s i 0) v))) c (from (k - j) j)
-      → (c + (w - length s) ≡ o) × (c + (w - length s) ≤ 1024)
-  lent-zero e q f h l u i =
-      let r : o ≡ c + (k - length s) = i ∙ ap (λ (x : ℕ). run (adding (λ y. bit (eqb (getD s y 0) v))) c (from (k - x) x)) q ∙ lent-rest s k c v e in
-      (omega arith, omega arith)
-
-  pub lent-other : v ≢ 0 → j ≡ length s → c ≤ j → length s ≤ k → k ≤ 1024 → o ≡ run (adding (λ i. bit (eqb (getD s i 0) v))) c (from (k - j) j) → (c ≡ o) × (c ≤ 1024)
-  lent-other e q h l u i =
-      (sym (i ∙ ap (λ (x : ℕ). run (adding (λ y. bit (eqb (getD s y 0) v))) c (from (k - x) x)) q ∙ lent-none s k c v e l), omega arith)
-
--- ---- one of three words is not 0
-
-module _ (r s t : List ℕ) (i : ℕ) where
-  pub any-first : getD r i 0 ≢ 0 → anyUsed r s t i ≡ true
-  any-first h = rw (ne-eqb (getD r i 0) 0 h) refl
-
-  pub any-second : getD s i 0 ≢ 0 → anyUsed r s t i ≡ true
-  any-second h = go (eqb (getD r i 0) 0)
+  pub cells-past : (k n i : ℕ) {u : Bool} → n ≤ length r → n ≤ length s → n ≤ length t
+      → u ≡ (emptyBlock r n i && emptyBlock s n i && emptyBlock t n i) → u ≡ true → run (asking cellOf) true (from (k - i) i) ≡ run (asking cellOf) true (from (k - (i + 8)) (i + 8))
+  cells-past k n i hr hs ht q e =
+      let (er, es, et) = three (emptyBlock r n i) (emptyBlock s n i) (emptyBlock t n i) (sym q ∙ e) in
+      run-skip (asking cellOf) k i (i + 8) true (omega arith)
+      (λ x a l. cell-empty x (empty-word n i r hr er x a l) (empty-word n i s hs es x a l) (empty-word n i t ht et x a l))
     where
-      go : (u : Bool) → not (u && eqb (getD s i 0) 0 && eqb (getD t i 0) 0) ≡ true
-      go true = rw (ne-eqb (getD s i 0) 0 h) refl
-      go false = refl
-
-  pub any-third : getD t i 0 ≢ 0 → anyUsed r s t i ≡ true
-  any-third h = go (eqb (getD r i 0) 0) (eqb (getD s i 0) 0)
-    where
-      go : (u v : Bool) → not (u && v && eqb (getD t i 0) 0) ≡ true
-      go true true = rw (ne-eqb (getD t i 0) 0 h) refl
-      go true false = refl
-      go false v = refl
-
-  pub any-none : getD r i 0 ≡ 0 → getD s i 0 ≡ 0 → getD t i 0 ≡ 0 → anyUsed r s t i ≡ false
-  any-none e f g = rw (e, f, g) refl
-
--- a place at which all three are 0 passes
-pub cells-on : (b : ℕ) (m : List ℕ) (d v : ℕ) (r s t : List ℕ) (k n i : ℕ) {j : ℕ} → j ≡ seek (anyUsed r s t) (n - i) i
-    → run (asking (λ x. cellWords b m d (address b (v + x)) (getD r x 0) (getD s x 0) (getD t x 0))) true (from (k - i) i)
-    ≡ run (asking (λ x. cellWords b m d (address b (v + x)) (getD r x 0) (getD s x 0) (getD t x 0))) true (from (k - j) j)
-cells-on b m d v r s t k n i {j} e =
-    let q = sought (anyUsed r s t) (n - i) i e in
-    run-skip (asking (λ x. cellWords b m d (address b (v + x)) (getD r x 0) (getD s x 0) (getD t x 0))) k i j true (q .low)
-    (λ x a l. empty (eqb (getD r x 0) 0) (eqb (getD s x 0) 0) (eqb (getD t x 0) 0) x (q .passed x a l))
-  where
-    empty : (f g h : Bool) (x : ℕ) → not (f && g && h) ≡ false
-        → cond f (g && h) (entryTest b m (getD r x 0) && virtual b (getD t x 0) && shadow1Word b m d (address b (v + x)) (getD r x 0) (getD s x 0) && (eqb d 1 || fromWords b m (directory b m (parent b m d)) (shadow1 b m (parent b m d)) (word b m d 0) (getD r x 0) (getD t x 0))) ≡ true
-    empty true true true x z = refl
-    empty true true false x z = absurd (false≢true (sym z))
-    empty true false h x z = absurd (false≢true (sym z))
-    empty false g h x z = absurd (false≢true (sym z))
+      three : (f g h : Bool) → (f && g && h) ≡ true → (f ≡ true) × (g ≡ true) × (h ≡ true)
+      three true true true z = (z, z, z)
+      three true true false z = absurd (false≢true z)
+      three true false h z = absurd (false≢true z)
+      three false g h z = absurd (false≢true z)
 
 -- the words that the code read
 pub cell-words : (b : ℕ) (m : List ℕ) (d v : ℕ) {w x y w′ x′ y′ : ℕ} → w ≡ w′ → x ≡ x′ → y ≡ y′ → cellWords b m d v w x y ≡ cellWords b m d v w′ x′ y′
@@ -107,21 +57,6 @@ from-lender b m d w y (e, f, g) = rw (e, f, g)
 
 pub root-words : (b first flat v : ℕ) {w y w′ y′ : ℕ} → w ≡ w′ → y ≡ y′ → rootWords b first flat v w y ≡ rootWords b first flat v w′ y′
 root-words b first flat v {w} {y} {w′} {y′} e f = ap (λ (x : ℕ). rootWords b first flat v x y) e ∙ ap (λ (x : ℕ). rootWords b first flat v w′ x) f
-
--- ---- a place of a row whose page table word is 0 changes nothing
-
-module _ (pt s1 : List ℕ) (k x : ℕ) (l : x < k) (z : getD pt x 0 ≡ 0) where
-  pub none-mapped : (u : ℕ) → adding (λ j. bit (not (eqb (getD pt j 0) 0))) u x ≡ u
-  none-mapped u = ap (λ (w : ℕ). u + bit (not (eqb w 0))) z ∙ omega arith
-
-  pub none-shut : (u : ℕ) → adding (λ j. bit (shutWords (getD pt j 0) (getD s1 j 0))) u x ≡ u
-  none-shut u = ap (λ (w : ℕ). u + bit (shutWords w (getD s1 x 0))) z ∙ omega arith
-
-  pub none-due : (b : ℕ) (m : List ℕ) (u : ℕ) → adding (λ j. dueWords b m (getD pt j 0) (getD s1 j 0)) u x ≡ u
-  none-due b m u = ap (λ (w : ℕ). u + dueWords b m w (getD s1 x 0)) z ∙ omega arith
-
-  pub none-hand : (b : ℕ) (o : Option Seen) → marking (λ j. handWords (getD pt j 0) (getD s1 j 0)) (λ s j. mark s (pageOf b (getD pt j 0))) o x ≡ o
-  none-hand b o = ap (λ (w : ℕ). marking (λ j. handWords w (getD s1 j 0)) (λ s j. mark s (pageOf b w)) o x) z
 
 module _ (b : ℕ) (m : List ℕ) (d : ℕ) where
   -- what is added at an address

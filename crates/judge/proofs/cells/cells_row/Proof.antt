@@ -7,12 +7,11 @@ use lib.ListN.{getD}
 use Rattle.walk.specs.Finite.{from}
 use Rattle.memory.specs.Geometry.{pageWords, address}
 use Rattle.judge.specs.Run.{run, asking}
-use Rattle.judge.specs.Rows.{anyUsed, Passed, cellWords}
+use Rattle.judge.specs.Rows.{Passed, cellWords}
 use Rattle.judge.proofs.Laws.Numbers.{most-pages}
-use Rattle.judge.proofs.Laws.Search.{sought}
 use Rattle.judge.proofs.Laws.Run.{run-start, run-end, ask-next, ask-stop}
 use Rattle.judge.proofs.Laws.Lent.{passed-next}
-use Rattle.judge.proofs.Laws.Sweeps.{cells-on, cell-words}
+use Rattle.judge.proofs.Laws.Sweeps.{cell-words, cells-past}
 use borrow.Author.Needs.{needs}
 use Rattle.judge.proofs.cells.cells_row.Statement.{statement}
 use Rattle.judge.proofs.cells.cells_row.Tie as tie
@@ -35,61 +34,77 @@ page-words-requires c κs = search needs
 cast-end : tie.Need-cast-end Inv-loop μ-loop
 cast-end c = search needs
 
-next-cell-requires : tie.Need-next-cell-requires Inv-loop μ-loop
-next-cell-requires c κs = search needs
-
 loop-holds : tie.Need-loop-holds Inv-loop μ-loop
 loop-holds c =
-    let s = c .before .before .before .before .before .before .before .before .args in
-    (run-start (asking (λ k. cellWords (s .b) (s .m .now) (s .d .0) (address (s .b) (s .v .0 + k)) (getD (s .pt .now) k 0) (getD (s .s1 .now) k 0) (getD (s .s2 .now) k 0))) (pageWords (s .b)) true ∙ cells-on (s .b) (s .m .now) (s .d .0) (s .v .0) (s .pt .now) (s .s1 .now) (s .s2 .now) (pageWords (s .b)) (c .before .before .least2 .result) 0 (c .next-cell .ensures), refl)
+    let s = c .before .before .before .before .before .before .before .args in
+    (run-start (asking (λ k. cellWords (s .b) (s .m .now) (s .d .0) (address (s .b) (s .v .0 + k)) (getD (s .pt .now) k 0) (getD (s .s1 .now) k 0) (getD (s .s2 .now) k 0))) (pageWords (s .b)) true, refl)
 
-read-requires : tie.Need-read-requires Inv-loop μ-loop
-read-requires c κs = search needs
+empty-cells-requires : tie.Need-empty-cells-requires Inv-loop μ-loop
+empty-cells-requires c κs = search needs
 
-cast-t20 : tie.Need-cast-t20 Inv-loop μ-loop
-cast-t20 c = search needs
+add-j : tie.Need-add-j Inv-loop μ-loop
+add-j c = search needs
 
-add-t21 : tie.Need-add-t21 Inv-loop μ-loop
-add-t21 c = omega (arith, c .before .before .before .before .before .before .before .before .before .before .before .before .pre .1 .0, most-pages (c .before .before .before .before .before .before .before .before .before .before .before .before .args .b) (c .before .before .before .before .before .before .before .before .before .before .before .before .pre .0 .1), c .before .before .before .before .before .page-words .ensures .0)
+loop-less : tie.Need-loop-less Inv-loop μ-loop
+loop-less c = search needs
 
-read-requires-2 : tie.Need-read-requires-2 Inv-loop μ-loop
-read-requires-2 c κs = search needs
+loop-again : tie.Need-loop-again Inv-loop μ-loop
+loop-again c =
+    let s = c .before .before .before .before .before .before .before .before .before .before .before .args in
+    let p = c .before .before .before .loop in
+    let e = c .before .before .before .before .before .least2 .ensures in
+    let f = c .before .before .before .before .before .before .least .ensures in (
+      p .inv .0
+          ∙ cells-past (s .b) (s .m .now) (s .d .0) (s .v .0) (s .pt .now) (s .s1 .now) (s .s2 .now) (pageWords (s .b)) (c .before .before .before .before .before .least2 .result) (p .j)
+          (omega (arith, e, f)) (omega (arith, e, f)) (omega (arith, e, f)) (c .before .empty-cells .ensures) (c .if1 .taken),
+      p .inv .1,
+    )
 
-read-requires-3 : tie.Need-read-requires-3 Inv-loop μ-loop
-read-requires-3 c κs = search needs
+words-at-requires : tie.Need-words-at-requires Inv-loop μ-loop
+words-at-requires c κs = search needs
+
+cast-t22 : tie.Need-cast-t22 Inv-loop μ-loop
+cast-t22 c = search needs
+
+add-t23 : tie.Need-add-t23 Inv-loop μ-loop
+add-t23 c = omega (arith, c .before .before .before .before .before .before .before .before .before .before .before .before .before .pre .1 .0, most-pages (c .before .before .before .before .before .before .before .before .before .before .before .before .before .args .b) (c .before .before .before .before .before .before .before .before .before .before .before .before .before .pre .0 .1), c .before .before .before .before .before .before .page-words .ensures .0)
 
 cell-requires : tie.Need-cell-requires Inv-loop μ-loop
-cell-requires c κs = (c .before .before .before .before .before .before .before .before .before .before .before .before .before .before .pre .0, (omega (arith, c .before .before .before .before .before .before .before .before .before .before .before .before .before .before .pre .1 .0, c .before .before .before .before .before .before .before .page-words .ensures .0), (c .before .before .before .before .before .before .before .before .before .before .before .before .before .before .pre .1 .1, c .before .before .before .before .before .loop .inv .1)))
+cell-requires c κs = (c .before .before .before .before .before .before .before .before .before .before .before .before .before .pre .0, (omega (arith, c .before .before .before .before .before .before .before .before .before .before .before .before .before .pre .1 .0, c .before .before .before .before .before .before .page-words .ensures .0), (c .before .before .before .before .before .before .before .before .before .before .before .before .before .pre .1 .1, c .before .before .before .before .before .loop .inv .1)))
 
 returns : tie.Need-returns Inv-loop μ-loop
 returns c =
-    let s = c .before .before .before .before .before .before .before .before .before .before .before .before .before .before .before .before .args in
-    ask-stop (λ k. cellWords (s .b) (s .m .now) (s .d .0) (address (s .b) (s .v .0 + k)) (getD (s .pt .now) k 0) (getD (s .s1 .now) k 0) (getD (s .s2 .now) k 0)) (pageWords (s .b)) (c .before .before .before .before .before .before .before .loop .j) (omega (arith, c .before .before .before .before .before .before .before .before .before .page-words .ensures .0)) (c .before .cell .ensures ∙ cell-words (s .b) (s .m .now) (s .d .0) (address (s .b) (s .v .0 + c .before .before .before .before .before .before .before .loop .j)) (c .before .before .before .read2 .ensures) (c .before .before .before .before .before .read .ensures) (c .before .before .read3 .ensures)) (c .if1 .taken) (c .before .before .before .before .before .before .before .loop .inv .0)
+    let s = c .before .before .before .before .before .before .before .before .before .before .before .before .before .before .before .args in
+    let p = c .before .before .before .before .before .before .before .loop in
+    let r = c .before .before .before .words-at .ensures in
+    ask-stop (λ k. cellWords (s .b) (s .m .now) (s .d .0) (address (s .b) (s .v .0 + k)) (getD (s .pt .now) k 0) (getD (s .s1 .now) k 0) (getD (s .s2 .now) k 0)) (pageWords (s .b)) (p .j) (omega (arith, c .before .before .before .before .before .before .before .before .page-words .ensures .0))
+    (c .before .cell .ensures ∙ cell-words (s .b) (s .m .now) (s .d .0) (address (s .b) (s .v .0 + p .j)) (r .0) (r .1) (r .2)) (c .if2 .taken) (p .inv .0)
 
 last-lent-requires : tie.Need-last-lent-requires Inv-loop μ-loop
 last-lent-requires c κs = search needs
 
-add-next-cell : tie.Need-add-next-cell Inv-loop μ-loop
-add-next-cell c = search needs
+add-j-2 : tie.Need-add-j-2 Inv-loop μ-loop
+add-j-2 c = search needs
 
-next-cell-requires-2 : tie.Need-next-cell-requires-2 Inv-loop μ-loop
-next-cell-requires-2 c κs = search needs
+loop-less-2 : tie.Need-loop-less-2 Inv-loop μ-loop
+loop-less-2 c = search needs
 
-loop-less : tie.Need-loop-less Inv-loop μ-loop
-loop-less c = omega (arith, c .before .before .before .before .before .before .before .before .before .before .before .page-words .ensures .0, sought (anyUsed (c .before .before .before .before .before .before .before .before .before .before .before .before .before .before .before .before .before .before .args .pt .now) (c .before .before .before .before .before .before .before .before .before .before .before .before .before .before .before .before .before .before .args .s1 .now) (c .before .before .before .before .before .before .before .before .before .before .before .before .before .before .before .before .before .before .args .s2 .now)) (c .before .before .before .before .before .before .before .before .before .before .before .before .least2 .result - (c .before .before .before .before .before .before .before .before .before .loop .j + 1)) (c .before .before .before .before .before .before .before .before .before .loop .j + 1) (c .next-cell2 .ensures) .low)
-
-loop-again : tie.Need-loop-again Inv-loop μ-loop
-loop-again c =
-    let s = c .before .before .before .before .before .before .before .before .before .before .before .before .before .before .before .before .before .before .args in (
-      ask-next (λ k. cellWords (s .b) (s .m .now) (s .d .0) (address (s .b) (s .v .0 + k)) (getD (s .pt .now) k 0) (getD (s .s1 .now) k 0) (getD (s .s2 .now) k 0)) (pageWords (s .b)) (c .before .before .before .before .before .before .before .before .before .loop .j) (omega (arith, c .before .before .before .before .before .before .before .before .before .before .before .page-words .ensures .0)) (c .before .before .before .cell .ensures ∙ cell-words (s .b) (s .m .now) (s .d .0) (address (s .b) (s .v .0 + c .before .before .before .before .before .before .before .before .before .loop .j)) (c .before .before .before .before .before .read2 .ensures) (c .before .before .before .before .before .before .before .read .ensures) (c .before .before .before .before .read3 .ensures)) (c .before .before .if1 .left) (c .before .before .before .before .before .before .before .before .before .loop .inv .0)
-          ∙ cells-on (s .b) (s .m .now) (s .d .0) (s .v .0) (s .pt .now) (s .s1 .now) (s .s2 .now) (pageWords (s .b)) (c .before .before .before .before .before .before .before .before .before .before .before .before .least2 .result) (c .before .before .before .before .before .before .before .before .before .loop .j + 1) (c .next-cell2 .ensures),
-      passed-next (s .b) (s .m .now) (s .d .0) (address (s .b) (s .v .0 + c .before .before .before .before .before .before .before .before .before .loop .j)) (c .before .before .before .before .before .read2 .result) (c .before .before .before .before .before .before .before .read .result) (c .before .before .before .before .read3 .result) (c .before .before .before .before .before .before .before .before .before .loop .to) (c .before .before .before .before .before .before .before .before .before .loop .inv .1) (c .before .before .before .cell .ensures) (c .before .before .if1 .left) (c .before .last-lent .ensures),
+loop-again-2 : tie.Need-loop-again-2 Inv-loop μ-loop
+loop-again-2 c =
+    let s = c .before .before .before .before .before .before .before .before .before .before .before .before .before .before .before .before .args in
+    let p = c .before .before .before .before .before .before .before .before .loop in
+    let w = c .before .before .before .before .words-at in
+    let r = w .ensures in (
+      ask-next (λ k. cellWords (s .b) (s .m .now) (s .d .0) (address (s .b) (s .v .0 + k)) (getD (s .pt .now) k 0) (getD (s .s1 .now) k 0) (getD (s .s2 .now) k 0)) (pageWords (s .b)) (p .j) (omega (arith, c .before .before .before .before .before .before .before .before .before .page-words .ensures .0))
+          (c .before .before .cell .ensures ∙ cell-words (s .b) (s .m .now) (s .d .0) (address (s .b) (s .v .0 + p .j)) (r .0) (r .1) (r .2)) (c .before .if2 .left) (p .inv .0),
+      passed-next (s .b) (s .m .now) (s .d .0) (address (s .b) (s .v .0 + p .j)) (w .result .w) (w .result .x) (w .result .y) (p .to) (p .inv .1) (c .before .before .cell .ensures) (c .before .if2 .left) (c .last-lent .ensures),
     )
 
 returns-2 : tie.Need-returns-2 Inv-loop μ-loop
 returns-2 c =
-    let s = c .before .before .before .before .before .before .before .before .before .before .args in
-    sym (c .before .loop .inv .0 ∙ run-end (asking (λ k. cellWords (s .b) (s .m .now) (s .d .0) (address (s .b) (s .v .0 + k)) (getD (s .pt .now) k 0) (getD (s .s1 .now) k 0) (getD (s .s2 .now) k 0))) (pageWords (s .b)) (c .before .loop .j) true (omega (arith, c .before .before .before .page-words .ensures .0)))
+    let s = c .before .before .before .before .before .before .before .before .before .args in
+    let p = c .before .loop in
+    sym (p .inv .0 ∙ run-end (asking (λ k. cellWords (s .b) (s .m .now) (s .d .0) (address (s .b) (s .v .0 + k)) (getD (s .pt .now) k 0) (getD (s .s1 .now) k 0) (getD (s .s2 .now) k 0))) (pageWords (s .b)) (p .j) true (omega (arith, c .before .before .page-words .ensures .0)))
 
 pub cells-row-spec : {M : Type 1} → statement M
 cells-row-spec =
@@ -101,18 +116,18 @@ cells-row-spec =
     least-requires-2
     page-words-requires
     cast-end
-    next-cell-requires
     loop-holds
-    read-requires
-    cast-t20
-    add-t21
-    read-requires-2
-    read-requires-3
+    empty-cells-requires
+    add-j
+    loop-less
+    loop-again
+    words-at-requires
+    cast-t22
+    add-t23
     cell-requires
     returns
     last-lent-requires
-    add-next-cell
-    next-cell-requires-2
-    loop-less
-    loop-again
+    add-j-2
+    loop-less-2
+    loop-again-2
     returns-2)

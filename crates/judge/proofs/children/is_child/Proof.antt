@@ -2,7 +2,6 @@
 use lib.Dec.{eqb}
 use Rattle.forms.proofs.Laws.Tests.{and-false, and-true}
 use mathlib.Core.Bool.{Bool, not, _&&_}
-use Prim.Native.Nat.{_-_}
 use mathlib.Core.Path.{sym, ap, _∙_}
 use borrow.Author.Tests.{eq-eqb, ne-eqb}
 use Rattle.judge.proofs.children.is_child.Statement.{statement}

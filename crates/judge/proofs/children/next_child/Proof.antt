@@ -1,11 +1,12 @@
 -- `judge::children::next_child` meets its contract. Assumes nothing.
 use Prim.Native.Nat.{_-_}
-use mathlib.Core.Path.{_≡_, refl, sym, _∙_}
+use mathlib.Core.Path.{_≡_, sym, _∙_}
 use native.Mathlib.Omega.{arith}
 use lib.ListN.{getD}
 use Rattle.judge.specs.Search.{seek}
 use Rattle.judge.specs.Rows.{childWords}
 use Rattle.judge.proofs.Laws.Search.{seek-on, seek-here, seek-end}
+use Rattle.judge.proofs.Laws.Blocks.{childless-past}
 use borrow.Author.Needs.{needs}
 use Rattle.judge.proofs.children.next_child.Statement.{statement}
 use Rattle.judge.proofs.children.next_child.Tie as tie
@@ -17,7 +18,22 @@ abbrev μ-loop : tie.MeasureT-loop
 μ-loop pt s1 n i j₀ j = n - j
 
 loop-holds : tie.Need-loop-holds Inv-loop μ-loop
-loop-holds c = refl
+loop-holds c = search needs
+
+childless-requires : tie.Need-childless-requires Inv-loop μ-loop
+childless-requires c κs = search needs
+
+add-j : tie.Need-add-j Inv-loop μ-loop
+add-j c = search needs
+
+loop-less : tie.Need-loop-less Inv-loop μ-loop
+loop-less c = search needs
+
+loop-again : tie.Need-loop-again Inv-loop μ-loop
+loop-again c =
+    let s = c .before .before .before .before .before .before .args in
+    let p = c .before .before .before .loop in
+    p .inv ∙ childless-past (s .n) (p .j) (s .s1 .now) (omega (arith, c .before .before .before .before .before .before .pre)) (s .pt .now) (c .before .childless .ensures) (c .if1 .taken)
 
 mul-is-child : tie.Need-mul-is-child Inv-loop μ-loop
 mul-is-child c = search needs
@@ -35,19 +51,28 @@ is-child-requires : tie.Need-is-child-requires Inv-loop μ-loop
 is-child-requires c κs = search needs
 
 returns : tie.Need-returns Inv-loop μ-loop
-returns c = sym (c .before .before .before .before .before .loop .inv ∙ seek-here (λ k. childWords (getD (c .before .before .before .before .before .before .before .before .args .pt .now) k 0) (getD (c .before .before .before .before .before .before .before .before .args .s1 .now) k 0)) (c .before .before .before .before .before .before .before .before .args .n) (c .before .before .before .before .before .loop .j) (omega arith) (sym (c .before .is-child .ensures) ∙ c .if1 .taken))
+returns c =
+    let s = c .before .before .before .before .before .before .before .before .before .before .args in
+    let p = c .before .before .before .before .before .before .before .loop in
+    sym (p .inv ∙ seek-here (λ k. childWords (getD (s .pt .now) k 0) (getD (s .s1 .now) k 0)) (s .n) (p .j) (omega arith) (sym (c .before .is-child .ensures) ∙ c .if2 .taken))
 
-add-j : tie.Need-add-j Inv-loop μ-loop
-add-j c = search needs
+add-j-2 : tie.Need-add-j-2 Inv-loop μ-loop
+add-j-2 c = search needs
 
-loop-less : tie.Need-loop-less Inv-loop μ-loop
-loop-less c = search needs
+loop-less-2 : tie.Need-loop-less-2 Inv-loop μ-loop
+loop-less-2 c = search needs
 
-loop-again : tie.Need-loop-again Inv-loop μ-loop
-loop-again c = c .before .before .before .before .before .loop .inv ∙ seek-on (λ k. childWords (getD (c .before .before .before .before .before .before .before .before .args .pt .now) k 0) (getD (c .before .before .before .before .before .before .before .before .args .s1 .now) k 0)) (c .before .before .before .before .before .before .before .before .args .n) (c .before .before .before .before .before .loop .j) (omega arith) (sym (c .before .is-child .ensures) ∙ c .if1 .left)
+loop-again-2 : tie.Need-loop-again-2 Inv-loop μ-loop
+loop-again-2 c =
+    let s = c .before .before .before .before .before .before .before .before .before .before .args in
+    let p = c .before .before .before .before .before .before .before .loop in
+    p .inv ∙ seek-on (λ k. childWords (getD (s .pt .now) k 0) (getD (s .s1 .now) k 0)) (s .n) (p .j) (omega arith) (sym (c .before .is-child .ensures) ∙ c .if2 .left)
 
 returns-2 : tie.Need-returns-2 Inv-loop μ-loop
-returns-2 c = sym (c .before .loop .inv ∙ seek-end (λ k. childWords (getD (c .before .before .before .before .args .pt .now) k 0) (getD (c .before .before .before .before .args .s1 .now) k 0)) (c .before .before .before .before .args .n) (c .before .loop .j) (c .loop-test .left))
+returns-2 c =
+    let s = c .before .before .before .before .args in
+    let p = c .before .loop in
+    sym (p .inv ∙ seek-end (λ k. childWords (getD (s .pt .now) k 0) (getD (s .s1 .now) k 0)) (s .n) (p .j) (c .loop-test .left))
 
 pub next-child-spec : {M : Type 1} → statement M
 next-child-spec =
@@ -56,13 +81,17 @@ next-child-spec =
     Inv-loop
     μ-loop
     loop-holds
+    childless-requires
+    add-j
+    loop-less
+    loop-again
     mul-is-child
     shared-slice-read-is-child
     mul-is-child-2
     shared-slice-read-is-child-2
     is-child-requires
     returns
-    add-j
-    loop-less
-    loop-again
+    add-j-2
+    loop-less-2
+    loop-again-2
     returns-2)

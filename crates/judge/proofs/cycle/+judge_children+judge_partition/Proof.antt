@@ -44,7 +44,7 @@ use Rattle.judge.proofs.tally.tally.Reads as tally-reads
 use Rattle.forms.proofs.forms_test.Reads as forms-test-reads
 use Rattle.judge.proofs.rows.next_word.Reads as next-word-reads
 use Rattle.judge.proofs.rows.table_of.Reads as table-of-reads
-use Rattle.judge.proofs.rows.words_of.Reads as words-of-reads
+use Rattle.pages.proofs.parts.words_of.Reads as words-of-reads
 use Rattle.pages.proofs.page_of.Reads as page-of-reads
 use Rattle.pages.proofs.directory.Reads as directory-reads
 use Rattle.pages.proofs.shadow1.Reads as shadow1-reads

@@ -1,6 +1,6 @@
 -- `judge::partitions::lent_test` meets its contract. Assumes nothing.
 use Rattle.memory.specs.Partition.{parent}
-use Prim.Native.Nat.{ℕ, _-_}
+use Prim.Native.Nat.{ℕ}
 use mathlib.Core.Path.{refl, ap, _∙_}
 use Rattle.forms.proofs.Laws.Tests.{equal, unequal, same-eqb}
 use Rattle.judging.specs.Quick.{lentCount}

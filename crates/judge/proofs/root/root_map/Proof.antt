@@ -1,10 +1,9 @@
 -- `judge::root::root_map` meets its contract. Assumes nothing.
-use Rattle.judge.proofs.Laws.Rows.{asks-next, dir-short}
 use Prim.Native.Nat.{ℕ, _+_, _-_, _*_, _≤_, _<_}
 use mathlib.Core.Path.{_≡_, sym, ap, _∙_}
 use native.Mathlib.Omega.{arith}
 use mathlib.Core.Bool.{true}
-use lib.ListN.{length}
+use lib.ListN.{length, getD}
 use Rattle.walk.specs.Finite.{from, all}
 use Rattle.memory.specs.Geometry.{pageWords}
 use Rattle.memory.specs.Words.{page}
@@ -15,7 +14,7 @@ use Rattle.judge.specs.Run.{run, asking}
 use Rattle.judge.specs.Rows.{used}
 use Rattle.judge.proofs.Laws.Numbers.{most-pages, row-in}
 use Rattle.judge.proofs.Laws.Search.{next-low, next-high, next-here}
-use Rattle.judge.proofs.Laws.Rows.{rowStep, rows-first, rows-end, asks-stop}
+use Rattle.judge.proofs.Laws.Rows.{rowStep, rows-first, rows-end, asks-next, asks-stop, dir-short, part-short}
 use Rattle.judge.proofs.Laws.Sweeps.{root-run, root-row}
 use borrow.Author.Needs.{needs}
 use Rattle.judge.proofs.root.root_map.Statement.{statement}
@@ -91,8 +90,12 @@ mul-t20 c =
 
 root-row-requires : tie.Need-root-row-requires Inv-loop μ-loop
 root-row-requires c κs =
-    let e : c .before .before .before .before .before .before .loop .i * c .page-words .result ≡ c .before .before .before .before .before .before .loop .i * pageWords (c .before .before .before .before .before .before .before .before .before .before .before .before .before .before .before .before .args .b) = rw (c .page-words .ensures .0) in
-    (c .before .before .before .before .before .before .before .before .before .before .before .before .before .before .before .before .pre, (omega (arith, row-in (c .before .before .before .before .before .before .before .before .before .before .before .before .before .before .before .before .args .b) (c .before .before .before .before .before .before .loop .i) (omega (arith, dir-short (c .before .before .before .before .before .before .before .before .before .before .before .before .before .before .before .before .args .b) (c .before .before .before .before .before .before .before .before .before .before .before .before .before .before .before .before .args .m .now) (c .before .before .before .before .before .before .before .before .before .before .before .directory .result .0) (c .before .before .before .before .before .before .before .before .before .before .words-of .ensures)))), omega (arith, c .before .before .before .before .before .before .before .before .before .before .before .before .before .threes-for .ensures .1, most-pages (c .before .before .before .before .before .before .before .before .before .before .before .before .before .before .before .before .args .b) (c .before .before .before .before .before .before .before .before .before .before .before .before .before .before .before .before .pre .1))))
+    let s = c .before .before .before .before .before .before .before .before .before .before .before .before .before .before .before .before .args in
+    let e : c .before .before .before .before .before .before .loop .i * c .page-words .result ≡ c .before .before .before .before .before .before .loop .i * pageWords (s .b) = rw (c .page-words .ensures .0) in
+    let short = dir-short (s .b) (s .m .now) (c .before .before .before .before .before .before .before .before .before .before .before .directory .result .0) (c .before .before .before .before .before .before .before .before .before .before .words-of .ensures) in (
+      c .before .before .before .before .before .before .before .before .before .before .before .before .before .before .before .before .pre,
+      (omega (arith, row-in (s .b) (c .before .before .before .before .before .before .loop .i) (omega (arith, short))), (omega (arith, c .before .before .before .before .before .before .before .before .before .before .before .before .before .threes-for .ensures .1, most-pages (s .b) (c .before .before .before .before .before .before .before .before .before .before .before .before .before .before .before .before .pre .1)), part-short (s .b) (s .m .now) (getD (c .before .before .before .before .before .before .before .before .before .before .words-of .result .now) (c .before .before .before .before .before .before .loop .i) 0) (c .before .before .before .table-of .ensures))),
+    )
 
 returns : tie.Need-returns Inv-loop μ-loop
 returns c =

@@ -1,64 +1,141 @@
 -- `judge::root::root_row` meets its contract. Assumes nothing.
-use Rattle.judge.proofs.Laws.Sweeps.{root-words}
-use Prim.Native.Nat.{_+_, _-_, _≤_}
-use mathlib.Core.Path.{_≡_, sym, _∙_}
+use Prim.Native.Nat.{ℕ, _+_, _-_, _≤_}
+use mathlib.Core.Path.{_≡_, sym, ap, _∙_}
 use mathlib.Core.Bool.{true}
 use native.Mathlib.Omega.{arith}
 use lib.ListN.{getD}
-use borrow.Author.Needs.{needs}
 use Rattle.walk.specs.Finite.{from}
 use Rattle.memory.specs.Geometry.{pageWords}
 use Rattle.judge.specs.Run.{run, asking}
 use Rattle.judge.specs.Rows.{rootWords}
-use Rattle.judge.proofs.Laws.Numbers.{most-pages}
-use Rattle.judge.proofs.Laws.Run.{run-start, run-end, ask-next, ask-stop}
+use Rattle.memory.proofs.Widths.{words-most}
+use Rattle.judge.proofs.Laws.Run.{Counted, counted-next, run-start, run-end, ask-next, ask-stop}
+use Rattle.judge.proofs.Laws.Sweeps.{root-words}
+use borrow.Author.Needs.{needs}
 use Rattle.judge.proofs.root.root_row.Statement.{statement}
 use Rattle.judge.proofs.root.root_row.Tie as tie
 
 abbrev Inv-loop : tie.InvT-loop
-Inv-loop b first flat v pt s2 end j₀ j = (j ≤ pageWords b) × (run (asking (λ k. rootWords b first flat (v .0 + k) (getD pt k 0) (getD s2 k 0))) true (from (pageWords b) 0) ≡ run (asking (λ k. rootWords b first flat (v .0 + k) (getD pt k 0) (getD s2 k 0))) true (from (pageWords b - j) j))
+Inv-loop b first flat v pt s2 n k₀ i₀ k i = (i ≤ n) × Counted (run (asking (λ l. rootWords b first flat (v .0 + l) (getD pt l 0) (getD s2 l 0))) true (from (pageWords b) 0)) (λ l. rootWords b first flat (v .0 + l) (getD pt l 0) (getD s2 l 0)) (pageWords b) i k
 
 abbrev μ-loop : tie.MeasureT-loop
-μ-loop b first flat v pt s2 end j₀ j = pageWords b - j
+μ-loop b first flat v pt s2 n k₀ i₀ k i = n - i
 
-page-words-requires : tie.Need-page-words-requires Inv-loop μ-loop
-page-words-requires c κs = search needs
+abbrev Inv-loop2 : tie.InvT-loop2
+Inv-loop2 b first flat v pt s2 n k i end j₀ j = (j ≤ pageWords b) × (run (asking (λ l. rootWords b first flat (v .0 + l) (getD pt l 0) (getD s2 l 0))) true (from (pageWords b) 0) ≡ run (asking (λ l. rootWords b first flat (v .0 + l) (getD pt l 0) (getD s2 l 0))) true (from (pageWords b - j) j))
 
-loop-holds : tie.Need-loop-holds Inv-loop μ-loop
-loop-holds c = (omega arith, run-start (asking (λ k. rootWords (c .before .before .before .args .b) (c .before .before .before .args .first) (c .before .before .before .args .flat) (c .before .before .before .args .v .0 + k) (getD (c .before .before .before .args .pt .now) k 0) (getD (c .before .before .before .args .s2 .now) k 0))) (pageWords (c .before .before .before .args .b)) true)
+abbrev μ-loop2 : tie.MeasureT-loop2
+μ-loop2 b first flat v pt s2 n k i end j₀ j = pageWords b - j
 
-add-t10 : tie.Need-add-t10 Inv-loop μ-loop
-add-t10 c = omega (arith, c .before .before .before .before .before .before .pre .1 .0, most-pages (c .before .before .before .before .before .before .args .b) (c .before .before .before .before .before .before .pre .0 .1), c .before .before .before .page-words .ensures .0)
+least-requires : tie.Need-least-requires Inv-loop μ-loop Inv-loop2 μ-loop2
+least-requires c κs = search needs
 
-cast-read : tie.Need-cast-read Inv-loop μ-loop
-cast-read c = search needs
+loop-holds : tie.Need-loop-holds Inv-loop μ-loop Inv-loop2 μ-loop2
+loop-holds c =
+    let s = c .before .before .before .args in (omega arith, (omega arith, (λ e. run-start (asking (λ l. rootWords (s .b) (s .first) (s .flat) (s .v .0 + l) (getD (s .pt .now) l 0) (getD (s .s2 .now) l 0))) (pageWords (s .b)) true), λ l. absurd (omega (arith, l))))
 
-read-requires : tie.Need-read-requires Inv-loop μ-loop
-read-requires c κs = search needs
+cast-t16 : tie.Need-cast-t16 Inv-loop μ-loop Inv-loop2 μ-loop2
+cast-t16 c = search needs
 
-cast-read-2 : tie.Need-cast-read-2 Inv-loop μ-loop
-cast-read-2 c = search needs
+add-t17 : tie.Need-add-t17 Inv-loop μ-loop Inv-loop2 μ-loop2
+add-t17 c = search needs
 
-read-requires-2 : tie.Need-read-requires-2 Inv-loop μ-loop
-read-requires-2 c κs = search needs
+mul-root-bit : tie.Need-mul-root-bit Inv-loop μ-loop Inv-loop2 μ-loop2
+mul-root-bit c = search needs
 
-root-cell-requires : tie.Need-root-cell-requires Inv-loop μ-loop
-root-cell-requires c κs = (c .before .before .before .before .before .before .before .before .pre .0, omega (arith, c .before .before .before .before .before .before .before .before .pre .1 .0, c .before .before .before .before .before .before .before .before .pre .1 .1, c .before .before .before .before .before .page-words .ensures .0, c .before .before .before .loop-test .taken))
+shared-slice-read-root-bit : tie.Need-shared-slice-read-root-bit Inv-loop μ-loop Inv-loop2 μ-loop2
+shared-slice-read-root-bit c = search needs
 
-returns : tie.Need-returns Inv-loop μ-loop
-returns c = ask-stop (λ k. rootWords (c .before .before .before .before .before .before .before .before .before .before .args .b) (c .before .before .before .before .before .before .before .before .before .before .args .first) (c .before .before .before .before .before .before .before .before .before .before .args .flat) (c .before .before .before .before .before .before .before .before .before .before .args .v .0 + k) (getD (c .before .before .before .before .before .before .before .before .before .before .args .pt .now) k 0) (getD (c .before .before .before .before .before .before .before .before .before .before .args .s2 .now) k 0)) (pageWords (c .before .before .before .before .before .before .before .before .before .before .args .b)) (c .before .before .before .before .before .before .loop .j) (omega (arith, c .before .before .before .before .before .before .before .page-words .ensures .0)) (c .before .root-cell .ensures ∙ root-words (c .before .before .before .before .before .before .before .before .before .before .args .b) (c .before .before .before .before .before .before .before .before .before .before .args .first) (c .before .before .before .before .before .before .before .before .before .before .args .flat) (c .before .before .before .before .before .before .before .before .before .before .args .v .0 + c .before .before .before .before .before .before .loop .j) (c .before .before .before .read .ensures) (c .before .before .read2 .ensures)) (c .if1 .taken) (c .before .before .before .before .before .before .loop .inv .1)
+mul-root-bit-2 : tie.Need-mul-root-bit-2 Inv-loop μ-loop Inv-loop2 μ-loop2
+mul-root-bit-2 c = search needs
 
-add-j : tie.Need-add-j Inv-loop μ-loop
-add-j c = search needs
+shared-slice-read-root-bit-2 :
+    tie.Need-shared-slice-read-root-bit-2 Inv-loop μ-loop Inv-loop2 μ-loop2
+shared-slice-read-root-bit-2 c = search needs
 
-loop-less : tie.Need-loop-less Inv-loop μ-loop
+root-bit-requires : tie.Need-root-bit-requires Inv-loop μ-loop Inv-loop2 μ-loop2
+root-bit-requires c κs = search needs
+
+add-k : tie.Need-add-k Inv-loop μ-loop Inv-loop2 μ-loop2
+add-k c = omega (arith, c .before .before .before .before .before .before .before .before .before .pre .1 .1 .1, words-most (c .before .before .before .before .before .before .before .before .before .args .b) (c .before .before .before .before .before .before .before .before .before .pre .0 .1), c .before .before .before .before .before .before .least .ensures, c .before .before .before .before .before .loop .inv .0, c .before .before .before .before .before .loop .inv .1 .0, c .root-bit .ensures .1)
+
+add-i : tie.Need-add-i Inv-loop μ-loop Inv-loop2 μ-loop2
+add-i c = search needs
+
+loop-less : tie.Need-loop-less Inv-loop μ-loop Inv-loop2 μ-loop2
 loop-less c = search needs
 
-loop-again : tie.Need-loop-again Inv-loop μ-loop
-loop-again c = (omega (arith, c .before .before .before .before .before .before .before .page-words .ensures .0), ask-next (λ k. rootWords (c .before .before .before .before .before .before .before .before .before .before .args .b) (c .before .before .before .before .before .before .before .before .before .before .args .first) (c .before .before .before .before .before .before .before .before .before .before .args .flat) (c .before .before .before .before .before .before .before .before .before .before .args .v .0 + k) (getD (c .before .before .before .before .before .before .before .before .before .before .args .pt .now) k 0) (getD (c .before .before .before .before .before .before .before .before .before .before .args .s2 .now) k 0)) (pageWords (c .before .before .before .before .before .before .before .before .before .before .args .b)) (c .before .before .before .before .before .before .loop .j) (omega (arith, c .before .before .before .before .before .before .before .page-words .ensures .0)) (c .before .root-cell .ensures ∙ root-words (c .before .before .before .before .before .before .before .before .before .before .args .b) (c .before .before .before .before .before .before .before .before .before .before .args .first) (c .before .before .before .before .before .before .before .before .before .before .args .flat) (c .before .before .before .before .before .before .before .before .before .before .args .v .0 + c .before .before .before .before .before .before .loop .j) (c .before .before .before .read .ensures) (c .before .before .read2 .ensures)) (c .if1 .left) (c .before .before .before .before .before .before .loop .inv .1))
+loop-again : tie.Need-loop-again Inv-loop μ-loop Inv-loop2 μ-loop2
+loop-again c =
+    let s = c .before .before .before .before .before .before .before .before .before .args in
+    let p = c .before .before .before .before .before .loop in
+    (omega arith, counted-next (λ l. rootWords (s .b) (s .first) (s .flat) (s .v .0 + l) (getD (s .pt .now) l 0) (getD (s .s2 .now) l 0)) (pageWords (s .b)) (p .i) (omega (arith, c .before .before .before .before .before .before .before .before .before .pre .1 .1 .1, c .before .before .before .before .before .before .least .ensures)) (c .root-bit .ensures .0) (p .inv .1))
 
-returns-2 : tie.Need-returns-2 Inv-loop μ-loop
-returns-2 c = sym (c .before .loop .inv .1 ∙ run-end (asking (λ k. rootWords (c .before .before .before .before .before .args .b) (c .before .before .before .before .before .args .first) (c .before .before .before .before .before .args .flat) (c .before .before .before .before .before .args .v .0 + k) (getD (c .before .before .before .before .before .args .pt .now) k 0) (getD (c .before .before .before .before .before .args .s2 .now) k 0))) (pageWords (c .before .before .before .before .before .args .b)) (c .before .loop .j) true (omega (arith, c .before .before .page-words .ensures .0)))
+cast-if1 : tie.Need-cast-if1 Inv-loop μ-loop Inv-loop2 μ-loop2
+cast-if1 c = search needs
+
+returns : tie.Need-returns Inv-loop μ-loop Inv-loop2 μ-loop2
+returns c = c .before .before .loop .inv .1 .2 (omega (arith, c .if1 .taken, c .before .loop-test .left))
+
+page-words-requires : tie.Need-page-words-requires Inv-loop μ-loop Inv-loop2 μ-loop2
+page-words-requires c κs = search needs
+
+cast-j : tie.Need-cast-j Inv-loop μ-loop Inv-loop2 μ-loop2
+cast-j c = search needs
+
+loop2-holds : tie.Need-loop2-holds Inv-loop μ-loop Inv-loop2 μ-loop2
+loop2-holds c =
+    let s = c .before .before .before .before .before .before .before .args in
+    let p = c .before .before .before .loop in
+    let n = c .before .before .before .before .least .result in
+    let e : p .i ≡ n = omega (arith, p .inv .0, c .before .before .loop-test .left) in
+    (omega (arith, c .before .before .before .before .before .before .before .pre .1 .1 .1, c .before .before .before .before .least .ensures), p .inv .1 .1 (omega (arith, p .inv .1 .0, c .before .if1 .left, e)) ∙ ap (λ (j : ℕ). run (asking (λ l. rootWords (s .b) (s .first) (s .flat) (s .v .0 + l) (getD (s .pt .now) l 0) (getD (s .s2 .now) l 0))) true (from (pageWords (s .b) - j) j)) e)
+
+add-t27 : tie.Need-add-t27 Inv-loop μ-loop Inv-loop2 μ-loop2
+add-t27 c = search needs
+
+cast-read : tie.Need-cast-read Inv-loop μ-loop Inv-loop2 μ-loop2
+cast-read c = search needs
+
+read-requires : tie.Need-read-requires Inv-loop μ-loop Inv-loop2 μ-loop2
+read-requires c κs = search needs
+
+cast-read-2 : tie.Need-cast-read-2 Inv-loop μ-loop Inv-loop2 μ-loop2
+cast-read-2 c = search needs
+
+read-requires-2 : tie.Need-read-requires-2 Inv-loop μ-loop Inv-loop2 μ-loop2
+read-requires-2 c κs = search needs
+
+root-cell-requires : tie.Need-root-cell-requires Inv-loop μ-loop Inv-loop2 μ-loop2
+root-cell-requires c κs = search needs
+
+returns-2 : tie.Need-returns-2 Inv-loop μ-loop Inv-loop2 μ-loop2
+returns-2 c =
+    let s = c .before .before .before .before .before .before .before .before .before .before .before .before .before .before .args in
+    let p = c .before .before .before .before .before .before .loop2 in
+    ask-stop (λ l. rootWords (s .b) (s .first) (s .flat) (s .v .0 + l) (getD (s .pt .now) l 0) (getD (s .s2 .now) l 0)) (pageWords (s .b)) (p .j) (omega (arith, c .before .before .before .before .before .before .before .page-words .ensures .0))
+    (c .before .root-cell .ensures ∙ root-words (s .b) (s .first) (s .flat) (s .v .0 + p .j) (c .before .before .before .read .ensures) (c .before .before .read2 .ensures)) (c .if2 .taken) (p .inv .1)
+
+add-j : tie.Need-add-j Inv-loop μ-loop Inv-loop2 μ-loop2
+add-j c = search needs
+
+loop2-less : tie.Need-loop2-less Inv-loop μ-loop Inv-loop2 μ-loop2
+loop2-less c = search needs
+
+loop2-again : tie.Need-loop2-again Inv-loop μ-loop Inv-loop2 μ-loop2
+loop2-again c =
+    let s = c .before .before .before .before .before .before .before .before .before .before .before .before .before .before .args in
+    let p = c .before .before .before .before .before .before .loop2 in (
+      omega (arith, c .before .before .before .before .before .before .before .page-words .ensures .0),
+      ask-next (λ l. rootWords (s .b) (s .first) (s .flat) (s .v .0 + l) (getD (s .pt .now) l 0) (getD (s .s2 .now) l 0)) (pageWords (s .b)) (p .j) (omega (arith, c .before .before .before .before .before .before .before .page-words .ensures .0))
+          (c .before .root-cell .ensures ∙ root-words (s .b) (s .first) (s .flat) (s .v .0 + p .j) (c .before .before .before .read .ensures) (c .before .before .read2 .ensures)) (c .if2 .left) (p .inv .1),
+    )
+
+returns-3 : tie.Need-returns-3 Inv-loop μ-loop Inv-loop2 μ-loop2
+returns-3 c =
+    let s = c .before .before .before .before .before .before .before .before .before .args in
+    let p = c .before .loop2 in
+    sym (p .inv .1 ∙ run-end (asking (λ l. rootWords (s .b) (s .first) (s .flat) (s .v .0 + l) (getD (s .pt .now) l 0) (getD (s .s2 .now) l 0))) (pageWords (s .b)) (p .j) true (omega (arith, c .before .before .page-words .ensures .0)))
 
 pub root-row-spec : {M : Type 1} → statement M
 root-row-spec =
@@ -66,16 +143,34 @@ root-row-spec =
     (tie.spec
     Inv-loop
     μ-loop
-    page-words-requires
+    Inv-loop2
+    μ-loop2
+    least-requires
     loop-holds
-    add-t10
+    cast-t16
+    add-t17
+    mul-root-bit
+    shared-slice-read-root-bit
+    mul-root-bit-2
+    shared-slice-read-root-bit-2
+    root-bit-requires
+    add-k
+    add-i
+    loop-less
+    loop-again
+    cast-if1
+    returns
+    page-words-requires
+    cast-j
+    loop2-holds
+    add-t27
     cast-read
     read-requires
     cast-read-2
     read-requires-2
     root-cell-requires
-    returns
+    returns-2
     add-j
-    loop-less
-    loop-again
-    returns-2)
+    loop2-less
+    loop2-again
+    returns-3)

@@ -1,5 +1,4 @@
 -- `judge::root::root_test` meets its contract. Assumes nothing.
-use Prim.Native.Nat.{_-_}
 use Rattle.forms.proofs.Laws.Tests.{yes, no}
 use Rattle.soundness.specs.Test.{rootTest}
 use borrow.Author.Needs.{needs}

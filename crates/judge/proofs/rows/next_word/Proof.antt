@@ -11,8 +11,6 @@ use Rattle.judge.specs.Rows.{used}
 use Rattle.judge.proofs.Laws.Search.{seek-on, seek-two, seek-three, seek-four, seek-here, seek-end}
 use Rattle.judge.proofs.rows.next_word.Statement.{statement}
 use Rattle.judge.proofs.rows.next_word.Tie as tie
-use Rattle.judge.proofs.rows.next_word.Reads as reads
-use Rattle.judge.proofs.rows.next_word.Lts as lts
 
 abbrev Inv-loop : tie.InvT-loop
 Inv-loop s i j₀ j = (j ≤ length s) × (seek (used s) (length s - i) i ≡ seek (used s) (length s - j) j)

@@ -1,8 +1,8 @@
 -- `kernel::sequences::run` meets its contract. What is left of the calls gives what is left of the run. The measure is the room that is left. Assumes nothing.
-use mathlib.Core.Path.{_≡_, _∙_}
+use mathlib.Core.Path.{_≡_}
 use Prim.Native.Nat.{_≤_, _-_}
 use native.Mathlib.Omega.{arith}
-use lib.ListN.{length, length-set}
+use lib.ListN.{length}
 use borrow.Author.Needs.{needs}
 use Rattle.kernel.proofs.Words.{no-end, start-within, end-within}
 use Rattle.kernel.proofs.Running.{Rest, rest-start, rest-next, rest-full, rest-none}

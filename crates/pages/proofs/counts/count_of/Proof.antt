@@ -44,7 +44,7 @@ loop-again c =
     let p = c .before .before .before .loop in
     let s = c .before .before .before .before .before .args in
     let more : count (s .x) (drop (p .i) (s .s .now)) ≡ hit (s .x) (getD (s .s .now) (p .i) 0) + count (s .x) (drop (p .i + 1) (s .s .now)) =
-        rw (add-one (p .i), drop-cons (s .s .now) (p .i) 0 (omega arith)) (count-cons (s .x) (getD (s .s .now) (p .i) 0) (drop (suc (p .i)) (s .s .now))) in
+    rw (add-one (p .i), drop-cons (s .s .now) (p .i) 0 (omega arith)) (count-cons (s .x) (getD (s .s .now) (p .i) 0) (drop (suc (p .i)) (s .s .now))) in
     (omega (arith, p .inv .0, c .same .ensures .1), omega arith, omega (arith, p .inv .2, c .same .ensures .0, more))
 
 returns : tie.Need-returns Inv-loop μ-loop
