@@ -40,9 +40,11 @@ same-length-2 c = search needs
 returns-2 : tie.Need-returns-2
 unfolding refusals result
 returns-2 c =
+    let first = c .before .before .before .before .before .if1 in
     let s = c .before .before .before .before .before .before .before .before .before .before .args in
     let r = c .before .before .before .before .before .before .child-refusal in
-    done (s .b) (s .m .now) (enter (s .c)) (r .result) (one-page (s .b) (s .m .now) (s .c) _ (r .ensures .0)) 0 (c .reply2 .ensures) refl (c .before .before .before .enter-effect .ensures) (c .before .before .before .before .before .if1 .left)
+    done (s .b) (s .m .now) (enter (s .c)) (r .result) (one-page (s .b) (s .m .now) (s .c) _ (r .ensures .0)) 0 (c .reply2 .ensures) refl
+    (c .before .before .before .enter-effect .ensures) (first .left)
 
 pub enter-spec : {M : Type 1} → statement M
 enter-spec =

@@ -27,9 +27,12 @@ same-length c = search needs
 returns : tie.Need-returns
 unfolding effect
 returns c =
+    let current = c .before .before .before .before .before .before .current in
+    let mapping = c .before .before .before .before .before .mapping in
     let s = c .before .before .before .before .before .before .before .before .before .args in
-    let w = caller-mapping (s .b) (s .m .now) (s .c) (c .before .before .before .before .before .before .current .ensures) (c .before .before .before .before .before .mapping .ensures) in
-    c .before .before .write-word .ensures ∙ ap (λ (x : ℕ). put (s .b) (s .m .now) 0 4 x) (c .before .before .before .frame .ensures .0 ∙ ap (λ (w : ℕ). address (s .b) (pageOf (s .b) w)) w)
+    let w = caller-mapping (s .b) (s .m .now) (s .c) (current .ensures) (mapping .ensures) in
+    c .before .before .write-word .ensures ∙ ap (λ (x : ℕ). put (s .b) (s .m .now) 0 4 x)
+    (c .before .before .before .frame .ensures .0 ∙ ap (λ (w : ℕ). address (s .b) (pageOf (s .b) w)) w)
 
 pub enter-effect-spec : {M : Type 1} → statement M
 enter-effect-spec =

@@ -34,9 +34,10 @@ same-length-2 c = search needs
 returns-2 : tie.Need-returns-2
 unfolding result
 returns-2 c =
+    let first = c .before .before .before .before .before .if1 in
     let s = c .before .before .before .before .before .before .before .before .before .args in
     let r = c .before .before .before .before .before .before .leave-refusal in
-    done (s .b) (s .m .now) leave (r .result) (r .ensures .0) 0 (c .reply2 .ensures) refl (c .before .before .before .leave-effect .ensures) (c .before .before .before .before .before .if1 .left)
+    done (s .b) (s .m .now) leave (r .result) (r .ensures .0) 0 (c .reply2 .ensures) refl (c .before .before .before .leave-effect .ensures) (first .left)
 
 pub leave-spec : {M : Type 1} → statement M
 leave-spec =

@@ -26,9 +26,12 @@ same-length c = search needs
 returns : tie.Need-returns
 unfolding effect
 returns c =
+    let current = c .before .before .before .before .before .before .current in
+    let read-word = c .before .before .before .before .before .read-word in
     let s = c .before .before .before .before .before .before .before .before .before .args in
-    let w = c .before .before .before .before .before .read-word .ensures ∙ ap (λ (d : ℕ). word (s .b) (s .m .now) d 11) (c .before .before .before .before .before .before .current .ensures) in
-    c .before .before .write-word .ensures ∙ ap (λ (x : ℕ). put (s .b) (s .m .now) 0 4 x) (c .before .before .before .frame .ensures .0 ∙ ap (λ (w : ℕ). address (s .b) (pageOf (s .b) w)) w)
+    let w = read-word .ensures ∙ ap (λ (d : ℕ). word (s .b) (s .m .now) d 11) (current .ensures) in
+    c .before .before .write-word .ensures ∙ ap (λ (x : ℕ). put (s .b) (s .m .now) 0 4 x)
+    (c .before .before .before .frame .ensures .0 ∙ ap (λ (w : ℕ). address (s .b) (pageOf (s .b) w)) w)
 
 pub leave-effect-spec : {M : Type 1} → statement M
 leave-effect-spec =

@@ -23,17 +23,21 @@ parent-requires c κs = search needs
 returns-2 : tie.Need-returns-2
 unfolding refusals
 returns-2 c =
+    let h = c .before .before .before .before .before .before .pre in
+    let the-parent = c .before .before .parent in
     let s = c .before .before .before .before .before .before .args in
-    let g = ap not (sym (c .before .before .before .before .before .before .pre .1)) ∙ c .before .before .before .before .if1 .left in
-    let e : c .before .before .parent .result .0 ≡ parent (s .b) (s .m .now) (current (s .b) (s .m .now)) = c .before .before .parent .ensures ∙ ap (parent (s .b) (s .m .now)) (c .before .before .before .current .ensures) in
+    let g = ap not (sym (h .1)) ∙ c .before .before .before .before .if1 .left in
+    let e : the-parent .result .0 ≡ parent (s .b) (s .m .now) (current (s .b) (s .m .now)) = the-parent .ensures ∙ ap (parent (s .b) (s .m .now)) (c .before .before .before .current .ensures) in
     (sym (first-is (on g (at (eq-eqb _ _ (sym e ∙ c .if2 .taken))))), omega arith)
 
 returns-3 : tie.Need-returns-3
 unfolding refusals
 returns-3 c =
+    let h = c .before .before .before .before .before .before .pre in
+    let the-parent = c .before .before .parent in
     let s = c .before .before .before .before .before .before .args in
-    let g = ap not (sym (c .before .before .before .before .before .before .pre .1)) ∙ c .before .before .before .before .if1 .left in
-    let e : c .before .before .parent .result .0 ≡ parent (s .b) (s .m .now) (current (s .b) (s .m .now)) = c .before .before .parent .ensures ∙ ap (parent (s .b) (s .m .now)) (c .before .before .before .current .ensures) in
+    let g = ap not (sym (h .1)) ∙ c .before .before .before .before .if1 .left in
+    let e : the-parent .result .0 ≡ parent (s .b) (s .m .now) (current (s .b) (s .m .now)) = the-parent .ensures ∙ ap (parent (s .b) (s .m .now)) (c .before .before .before .current .ensures) in
     (sym (first-is (on g (on (ne-eqb _ _ (λ q. c .if2 .left (e ∙ q))) none))), omega arith)
 
 pub leave-refusal-spec : {M : Type 1} → statement M

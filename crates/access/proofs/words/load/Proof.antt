@@ -40,7 +40,8 @@ returns-2 c =
     let s = c .before .before .before .before .before .before .args in
     let r = c .before .before .before .before .refusal in
     let call = load (s .a) in
-    done (s .b) (s .m .now) call (r .result) (r .ensures .0) (c .before .read .result) (c .reply2 .ensures) (c .before .read .ensures ∙ ap (λ (i : ℕ). getD (s .m .now) i 0) (c .before .before .word-at .ensures)) refl (c .before .before .before .if1 .left)
+    done (s .b) (s .m .now) call (r .result) (r .ensures .0) (c .before .read .result) (c .reply2 .ensures)
+    (c .before .read .ensures ∙ ap (λ (i : ℕ). getD (s .m .now) i 0) (c .before .before .word-at .ensures)) refl (c .before .before .before .if1 .left)
 
 pub load-spec : {M : Type 1} → statement M
 load-spec =

@@ -37,10 +37,11 @@ same-length-2 c = search needs
 returns-2 : tie.Need-returns-2
 unfolding refusals result
 returns-2 c =
+    let first = c .before .before .before .before .before .if1 in
     let s = c .before .before .before .before .before .before .before .before .before .args in
     let r = c .before .before .before .before .before .before .refusal in
     let call = store (s .a) (s .x) in
-    done (s .b) (s .m .now) call (r .result) (r .ensures .0) 0 (c .reply2 .ensures) refl (c .before .before .before .store-effect .ensures) (c .before .before .before .before .before .if1 .left)
+    done (s .b) (s .m .now) call (r .result) (r .ensures .0) 0 (c .reply2 .ensures) refl (c .before .before .before .store-effect .ensures) (first .left)
 
 pub store-spec : {M : Type 1} → statement M
 store-spec =

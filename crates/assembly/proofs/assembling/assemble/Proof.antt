@@ -7,7 +7,9 @@ use Rattle.assembly.proofs.assembling.assemble.Statement.{statement}
 use Rattle.assembly.proofs.assembling.assemble.Tie as tie
 
 returns : tie.Need-returns
-returns c = long (c .before .before .args .text .now) (c .before .before .args .out .now) (c .if1 .taken)
+returns c =
+    let s = c .before .before .args in
+    long (s .text .now) (s .out .now) (c .if1 .taken)
 
 script-buffer-requires : tie.Need-script-buffer-requires
 script-buffer-requires c κs = search needs
@@ -32,10 +34,11 @@ put-requires c κs = simp length-take (omega arith)
 
 returns-2 : tie.Need-returns-2
 returns-2 c =
+    let script-length = c .before .before .before .script-length in
     let s = c .before .before .before .before .before .before .before .before .before .before .args in
     let r = c .before .before .before .before .before .read-text in
-    answered (s .text .now) (s .out .now) (r .last .1 .0) (c .put .last .0) (c .put .result) (c .before .before .before .script-length .result) (r .result)
-    (omega arith) (omega arith) (r .ensures .0) (r .ensures .1) (omega arith) (c .before .before .before .script-length .ensures) (c .put .ensures)
+    answered (s .text .now) (s .out .now) (r .last .1 .0) (c .put .last .0) (c .put .result) (script-length .result) (r .result)
+    (omega arith) (omega arith) (r .ensures .0) (r .ensures .1) (omega arith) (script-length .ensures) (c .put .ensures)
     (omega arith)
 
 pub assemble-spec : {M : Type 1} → statement M

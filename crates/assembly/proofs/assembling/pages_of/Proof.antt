@@ -27,8 +27,9 @@ count-words-requires c κs = search needs
 
 returns-2 : tie.Need-returns-2
 returns-2 c =
+    let s = c .before .before .before .before .before .before .args in
     let n = c .before .before .before .before .next-word .ensures in
-    more-words (c .before .before .before .before .before .before .args .s .now) n (omega (arith, n .order, c .before .before .before .if1 .left)) _
+    more-words (s .s .now) n (omega (arith, n .order, c .before .before .before .if1 .left)) _
     (c .before .count-words .ensures .0) (c .if2 .taken)
 
 sub-is-number : tie.Need-sub-is-number
@@ -45,9 +46,12 @@ is-number-requires c κs = search needs
 
 returns-3 : tie.Need-returns-3
 returns-3 c =
-    let n = c .before .before .before .before .before .before .before .next-word .ensures in
-    no-number (c .before .before .before .before .before .before .before .before .before .args .s .now) n
-    (omega (arith, n .order, c .before .before .before .before .before .before .if1 .left)) _ (c .before .before .before .before .count-words .ensures .0)
+    let s = c .before .before .before .before .before .before .before .before .before .args in
+    let next-word = c .before .before .before .before .before .before .before .next-word in
+    let first = c .before .before .before .before .before .before .if1 in
+    let n = next-word .ensures in
+    no-number (s .s .now) n
+    (omega (arith, n .order, first .left)) _ (c .before .before .before .before .count-words .ensures .0)
     (c .before .before .before .if2 .left) (sym (c .before .is-number .ensures) ∙ not-true _ (c .if3 .taken))
 
 sub-number : tie.Need-sub-number
@@ -64,31 +68,48 @@ number-requires c κs = sym (c .before .before .is-number .ensures) ∙ not-fals
 
 returns-4 : tie.Need-returns-4
 returns-4 c =
-    let n = c .before .before .before .before .before .before .before .before .before .before .next-word .ensures in
-    too-small (c .before .before .before .before .before .before .before .before .before .before .before .before .args .s .now) n
-    (omega (arith, n .order, c .before .before .before .before .before .before .before .before .before .if1 .left)) _
-    (c .before .before .before .before .before .before .before .count-words .ensures .0) (c .before .before .before .before .before .before .if2 .left)
+    let s = c .before .before .before .before .before .before .before .before .before .before .before .before .args in
+    let next-word = c .before .before .before .before .before .before .before .before .before .before .next-word in
+    let first = c .before .before .before .before .before .before .before .before .before .if1 in
+    let count-words = c .before .before .before .before .before .before .before .count-words in
+    let second = c .before .before .before .before .before .before .if2 in
+    let n = next-word .ensures in
+    too-small (s .s .now) n
+    (omega (arith, n .order, first .left)) _
+    (count-words .ensures .0) (second .left)
     (sym (c .before .before .before .before .is-number .ensures) ∙ not-false _ (c .before .before .before .if3 .left)) _ (c .before .number .ensures)
     (c .if4 .taken)
 
 returns-5 : tie.Need-returns-5
 returns-5 c =
-    let n = c .before .before .before .before .before .before .before .before .before .before .before .next-word .ensures in
-    too-large (c .before .before .before .before .before .before .before .before .before .before .before .before .before .args .s .now) n
-    (omega (arith, n .order, c .before .before .before .before .before .before .before .before .before .before .if1 .left)) _
-    (c .before .before .before .before .before .before .before .before .count-words .ensures .0)
-    (c .before .before .before .before .before .before .before .if2 .left)
-    (sym (c .before .before .before .before .before .is-number .ensures) ∙ not-false _ (c .before .before .before .before .if3 .left)) _
+    let s = c .before .before .before .before .before .before .before .before .before .before .before .before .before .args in
+    let next-word = c .before .before .before .before .before .before .before .before .before .before .before .next-word in
+    let first = c .before .before .before .before .before .before .before .before .before .before .if1 in
+    let count-words = c .before .before .before .before .before .before .before .before .count-words in
+    let second = c .before .before .before .before .before .before .before .if2 in
+    let is-number = c .before .before .before .before .before .is-number in
+    let n = next-word .ensures in
+    too-large (s .s .now) n
+    (omega (arith, n .order, first .left)) _
+    (count-words .ensures .0)
+    (second .left)
+    (sym (is-number .ensures) ∙ not-false _ (c .before .before .before .before .if3 .left)) _
     (c .before .before .number .ensures) (c .before .if4 .left) (c .if5 .taken)
 
 returns-6 : tie.Need-returns-6
 returns-6 c =
-    let n = c .before .before .before .before .before .before .before .before .before .before .before .next-word .ensures in
-    is-pages (c .before .before .before .before .before .before .before .before .before .before .before .before .before .args .s .now) n
-    (omega (arith, n .order, c .before .before .before .before .before .before .before .before .before .before .if1 .left)) _
-    (c .before .before .before .before .before .before .before .before .count-words .ensures .0)
-    (c .before .before .before .before .before .before .before .if2 .left)
-    (sym (c .before .before .before .before .before .is-number .ensures) ∙ not-false _ (c .before .before .before .before .if3 .left)) _
+    let s = c .before .before .before .before .before .before .before .before .before .before .before .before .before .args in
+    let next-word = c .before .before .before .before .before .before .before .before .before .before .before .next-word in
+    let first = c .before .before .before .before .before .before .before .before .before .before .if1 in
+    let count-words = c .before .before .before .before .before .before .before .before .count-words in
+    let second = c .before .before .before .before .before .before .before .if2 in
+    let is-number = c .before .before .before .before .before .is-number in
+    let n = next-word .ensures in
+    is-pages (s .s .now) n
+    (omega (arith, n .order, first .left)) _
+    (count-words .ensures .0)
+    (second .left)
+    (sym (is-number .ensures) ∙ not-false _ (c .before .before .before .before .if3 .left)) _
     (c .before .before .number .ensures) (c .before .if4 .left) (c .if5 .left)
 
 pub pages-of-spec : {M : Type 1} → statement M

@@ -18,9 +18,11 @@ same-length c = search needs
 
 returns : tie.Need-returns
 returns c =
+    let put-word = c .before .before .before .before .before .before .before .before .before .before .put-word in
+    let put-word2 = c .before .before .before .before .before .before .put-word2 in
     put-then
-    (put-then (c .before .before .before .before .before .before .before .before .before .before .put-word .ensures)
-    (c .before .before .before .before .before .before .put-word2 .ensures))
+    (put-then (put-word .ensures)
+    (put-word2 .ensures))
     (c .before .before .put-word3 .ensures)
 
 pub put-header-spec : {M : Type 1} → statement M

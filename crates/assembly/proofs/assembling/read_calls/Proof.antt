@@ -50,9 +50,11 @@ same-length c = search needs
 
 returns : tie.Need-returns Inv-loop μ-loop
 returns c =
+    let p = c .before .before .before .before .before .before .before .before .loop in
+    let line-at = c .before .before .before .before .before .before .line-at in
     let s = c .before .before .before .before .before .before .before .before .before .before .before .args in (
-      stops (s .text .now) (s .out .now) (s .n) (c .before .before .before .before .before .before .before .before .loop .inv .0)
-          (c .before .before .before .before .before .before .line-at .ensures) (c .before .before .before .read-line .ensures) (c .if1 .taken),
+      stops (s .text .now) (s .out .now) (s .n) (p .inv .0)
+          (line-at .ensures) (c .before .before .before .read-line .ensures) (c .if1 .taken),
       search needs,
     )
 
@@ -67,19 +69,22 @@ add-i c = search needs
 
 loop-less : tie.Need-loop-less Inv-loop μ-loop
 loop-less c =
+    let line-at = c .before .before .before .before .before .before .before .line-at in
     omega (
       arith,
-      c .before .before .before .before .before .before .before .line-at .ensures .after,
-      c .before .before .before .before .before .before .before .line-at .ensures .order,
-      c .before .before .before .before .before .before .before .line-at .ensures .within,
+      line-at .ensures .after,
+      line-at .ensures .order,
+      line-at .ensures .within,
     )
 
 loop-again : tie.Need-loop-again Inv-loop μ-loop
 loop-again c =
+    let p = c .before .before .before .before .before .before .before .before .before .loop in
+    let line-at = c .before .before .before .before .before .before .before .line-at in
     let s = c .before .before .before .before .before .before .before .before .before .before .before .before .args in
-    let l = c .before .before .before .before .before .before .before .line-at .ensures in
+    let l = line-at .ensures in
     let r = c .before .before .before .before .read-line .ensures in (
-      goes-on (s .text .now) (s .out .now) (s .n) (c .before .before .before .before .before .before .before .before .before .loop .inv .0) l r
+      goes-on (s .text .now) (s .out .now) (s .n) (p .inv .0) l r
           (c .before .if1 .left),
       omega (arith, l .within),
       omega (arith, l .after, l .order),
@@ -96,8 +101,9 @@ same-length-2 c = search needs
 
 returns-2 : tie.Need-returns-2 Inv-loop μ-loop
 returns-2 c =
+    let p = c .before .before .before .before .before .loop in
     let s = c .before .before .before .before .before .before .before .before in (
-      headed (s .args .text .now) (s .args .out .now) (s .args .n) (c .before .before .before .before .before .loop .inv .0) (omega arith) (omega arith)
+      headed (s .args .text .now) (s .args .out .now) (s .args .n) (p .inv .0) (omega arith) (omega arith)
           (c .before .before .put-header .ensures),
       search needs,
     )

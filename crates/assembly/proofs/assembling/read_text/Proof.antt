@@ -51,11 +51,14 @@ same-length c = search needs
 
 returns : tie.Need-returns Inv-loop μ-loop
 returns c =
+    let s = c .before .before .before .before .before .before .before .before .before .before .before .args in
+    let p = c .before .before .before .before .before .before .before .before .loop in
+    let line-at = c .before .before .before .before .before .before .line-at in
     let n = c .before .before .before .before .count-words in (
-      no-pages (c .before .before .before .before .before .before .before .before .before .before .before .args .text .now) _
-          (c .before .before .before .before .before .before .line-at .ensures) _ (c .before .pages-of .ensures)
+      no-pages (s .text .now) _
+          (line-at .ensures) _ (c .before .pages-of .ensures)
           (λ q. c .before .before .before .if1 .taken (n .ensures .0 ∙ q)) (c .if2 .taken) ∙
-          c .before .before .before .before .before .before .before .before .loop .inv .0,
+          p .inv .0,
       search needs,
     )
 
@@ -82,13 +85,18 @@ same-length-2 c = search needs
 
 returns-2 : tie.Need-returns-2 Inv-loop μ-loop
 returns-2 c =
+    let s = c .before .before .before .before .before .before .before .before .before .before .before .before .before .before .before .args in
+    let p = c .before .before .before .before .before .before .before .before .before .before .before .before .loop in
+    let line-at = c .before .before .before .before .before .before .before .before .before .before .line-at in
+    let first = c .before .before .before .before .before .before .before .if1 in
+    let pages-of = c .before .before .before .before .before .pages-of in
     let n = c .before .before .before .before .before .before .before .before .count-words in
     let r = c .before .before .read-calls .ensures in (
-      r .0 ∙ pages (c .before .before .before .before .before .before .before .before .before .before .before .before .before .before .before .args .text .now)
-          _ (c .before .before .before .before .before .before .before .before .before .before .line-at .ensures) _
-          (c .before .before .before .before .before .pages-of .ensures)
-          (λ q. c .before .before .before .before .before .before .before .if1 .taken (n .ensures .0 ∙ q)) (c .before .before .before .before .if2 .left) ∙
-          c .before .before .before .before .before .before .before .before .before .before .before .before .loop .inv .0,
+      r .0 ∙ pages (s .text .now)
+          _ (line-at .ensures) _
+          (pages-of .ensures)
+          (λ q. first .taken (n .ensures .0 ∙ q)) (c .before .before .before .before .if2 .left) ∙
+          p .inv .0,
       r .1,
     )
 
@@ -103,9 +111,11 @@ loop-less c = let l = c .before .before .before .line-at .ensures in omega (arit
 
 loop-again : tie.Need-loop-again Inv-loop μ-loop
 loop-again c =
+    let s = c .before .before .before .before .before .before .before .before .args in
+    let p = c .before .before .before .before .before .loop in
     let l = c .before .before .before .line-at .ensures in (
-      blank-line (c .before .before .before .before .before .before .before .before .args .text .now) _ l
-          (sym (c .before .count-words .ensures .0) ∙ c .if1 .left) ∙ c .before .before .before .before .before .loop .inv .0,
+      blank-line (s .text .now) _ l
+          (sym (c .before .count-words .ensures .0) ∙ c .if1 .left) ∙ p .inv .0,
       omega (arith, l .within),
       omega (arith, l .after, l .order),
       search needs,

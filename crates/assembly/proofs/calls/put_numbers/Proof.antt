@@ -17,12 +17,14 @@ abbrev μ-loop : tie.MeasureT-loop
 μ-loop out₀ at s to₀ i₀ out to i = length s - i
 
 loop-holds : tie.Need-loop-holds Inv-loop μ-loop
-loop-holds c = (
-  begun (c .before .before .args .s .now) (c .before .before .args .out .now) (c .before .before .args .at) (c .before .before .pre .0)
-      (c .before .before .pre .1),
-  search needs,
-  search needs,
-)
+loop-holds c =
+    let s = c .before .before .args in
+    let h = c .before .before .pre in (
+      begun (s .s .now) (s .out .now) (s .at) (h .0)
+          (h .1),
+      search needs,
+      search needs,
+    )
 
 next-word-requires : tie.Need-next-word-requires Inv-loop μ-loop
 next-word-requires c κs = search needs
@@ -32,8 +34,9 @@ same-length c = search needs
 
 returns : tie.Need-returns Inv-loop μ-loop
 returns c =
-    over (c .before .before .before .before .before .args .s .now) (c .before .before .before .before .before .args .out .now)
-    (c .before .before .before .before .before .args .at) (c .before .before .loop .inv .0) (c .before .next-word .ensures) (c .if1 .taken)
+    let s = c .before .before .before .before .before .args in
+    over (s .s .now) (s .out .now)
+    (s .at) (c .before .before .loop .inv .0) (c .before .next-word .ensures) (c .if1 .taken)
 
 sub-number : tie.Need-sub-number Inv-loop μ-loop
 sub-number c = search needs
@@ -46,16 +49,19 @@ part-number-end c = search needs
 
 number-requires : tie.Need-number-requires Inv-loop μ-loop
 number-requires c κs =
-    let n = c .before .before .next-word .ensures in is-number (c .before .before .before .before .before .before .args .s .now)
-    (c .before .before .before .before .before .before .args .out .now) (c .before .before .before .before .before .before .args .at)
+    let s = c .before .before .before .before .before .before .args in
+    let n = c .before .before .next-word .ensures in is-number (s .s .now)
+    (s .out .now) (s .at)
     (c .before .before .before .loop .inv .0) n (omega (arith, n .order, c .before .if1 .left))
 
 put-word-requires : tie.Need-put-word-requires Inv-loop μ-loop
 put-word-requires c κs =
+    let s = c .before .before .before .before .before .before .before .before .args in
+    let p = c .before .before .before .before .before .loop in
     let n = c .before .before .before .before .next-word .ensures in room-here
-    (c .before .before .before .before .before .before .before .before .args .s .now)
-    (c .before .before .before .before .before .before .before .before .args .out .now)
-    (c .before .before .before .before .before .before .before .before .args .at) (c .before .before .before .before .before .loop .inv .0) n
+    (s .s .now)
+    (s .out .now)
+    (s .at) (p .inv .0) n
     (omega (arith, n .order, c .before .before .before .if1 .left))
 
 loop-less : tie.Need-loop-less Inv-loop μ-loop
@@ -65,13 +71,17 @@ loop-less c =
 
 loop-again : tie.Need-loop-again Inv-loop μ-loop
 loop-again c =
-    let n = c .before .before .before .before .before .before .before .next-word .ensures in
+    let s = c .before .before .before .before .before .before .before .before .before .before .before .args in
+    let turn = c .before .before .before .before .before .before .before .before .loop in
+    let next-word = c .before .before .before .before .before .before .before .next-word in
+    let first = c .before .before .before .before .before .before .if1 in
+    let n = next-word .ensures in
     let p = put-same (ap littleEndian (c .before .before .before .before .number .ensures)) (c .before .before .put-word .ensures) in (
-      goes-on (c .before .before .before .before .before .before .before .before .before .before .before .args .s .now)
-          (c .before .before .before .before .before .before .before .before .before .before .before .args .out .now)
-          (c .before .before .before .before .before .before .before .before .before .before .before .args .at)
-          (c .before .before .before .before .before .before .before .before .loop .inv .0) n
-          (omega (arith, n .order, c .before .before .before .before .before .before .if1 .left)) p,
+      goes-on (s .s .now)
+          (s .out .now)
+          (s .at)
+          (turn .inv .0) n
+          (omega (arith, n .order, first .left)) p,
       n .within,
       search needs,
     )

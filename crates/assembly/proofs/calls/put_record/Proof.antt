@@ -29,17 +29,20 @@ same-length c = search needs
 
 returns : tie.Need-returns
 returns c =
+    let call-number = c .before .before .before .before .before .before .before .before .call-number in
+    let put-word = c .before .before .before .before .before .before .put-word in
+    let put-numbers = c .before .before .put-numbers in
     let s = c .before .before .before .before .before .before .before .before .before .before .before .before in
     let ws = split (s .args .s .now) in
     let p =
-    put-same (ap littleEndian (c .before .before .before .before .before .before .before .before .call-number .ensures .0))
-    (c .before .before .before .before .before .before .put-word .ensures) in (
-      record-put (s .args .w .now) ws p (c .before .before .put-numbers .ensures),
+    put-same (ap littleEndian (call-number .ensures .0))
+    (put-word .ensures) in (
+      record-put (s .args .w .now) ws p (put-numbers .ensures),
       omega (
         arith,
         fine (s .args .at) (s .args .w .now) ws (s .pre .0) .room,
-        c .before .before .before .before .before .before .put-word .ensures .next,
-        c .before .before .put-numbers .ensures .next,
+        put-word .ensures .next,
+        put-numbers .ensures .next,
         arguments-length ws,
       ),
     )

@@ -37,8 +37,9 @@ reason-requires c κs = search needs
 
 returns-2 : tie.Need-returns-2
 returns-2 c =
+    let next-word = c .before .before .before .before .before .next-word in
     let s = c .before .before .before .before .before .before .before .before in
-    let n = c .before .before .before .before .before .next-word .ensures in
+    let n = next-word .ensures in
     refused (s .args .s .now) (s .args .out .now) (s .args .at) _ _ n (s .pre .0) _ (omega (arith, n .order, c .before .before .before .before .if1 .left))
     (c .before .reason .ensures) (c .if2 .taken)
 
@@ -68,12 +69,16 @@ same-length c = search needs
 
 returns-3 : tie.Need-returns-3
 returns-3 c =
+    let next-word = c .before .before .before .before .before .before .before .before .before .before .before .next-word in
+    let first = c .before .before .before .before .before .before .before .before .before .before .if1 in
+    let reason = c .before .before .before .before .before .before .before .reason in
+    let second = c .before .before .before .before .before .before .if2 in
     let s = c .before .before .before .before .before .before .before .before .before .before .before .before .before .before in
-    let n = c .before .before .before .before .before .before .before .before .before .before .before .next-word .ensures in
+    let n = next-word .ensures in
     let p = c .before .before .put-record .ensures in
     taken (s .args .s .now) (s .args .out .now) (s .args .at) _ _ n (s .pre .0)
-    (omega (arith, n .order, c .before .before .before .before .before .before .before .before .before .before .if1 .left))
-    (sym (c .before .before .before .before .before .before .if2 .left) ∙ c .before .before .before .before .before .before .before .reason .ensures) (p .0)
+    (omega (arith, n .order, first .left))
+    (sym (second .left) ∙ reason .ensures) (p .0)
     (p .1)
 
 pub read-line-spec : {M : Type 1} → statement M

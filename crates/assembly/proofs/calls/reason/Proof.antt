@@ -33,8 +33,9 @@ returns-2 c =
 
 returns-3 : tie.Need-returns-3
 returns-3 c =
+    let call-number = c .before .before .before .before .before .call-number in
     let s = c .before .before .before .before .before .before .before .before .args in
-    many (s .at) (s .w .now) (split (s .s .now)) _ _ _ (c .before .before .before .before .before .call-number .ensures .0)
+    many (s .at) (s .w .now) (split (s .s .now)) _ _ _ (call-number .ensures .0)
     (c .before .before .before .argument-count .ensures .0) (c .before .before .count-words .ensures .0) (c .before .before .before .before .if1 .left)
     (c .if3 .taken)
 
@@ -43,11 +44,14 @@ all-numbers-requires c κs = search needs
 
 returns-4 : tie.Need-returns-4
 returns-4 c =
+    let call-number = c .before .before .before .before .before .before .before .call-number in
+    let first = c .before .before .before .before .before .before .if1 in
+    let argument-count = c .before .before .before .before .before .argument-count in
     let s = c .before .before .before .before .before .before .before .before .before .before .args in
     let others-here = sym (c .before .all-numbers .ensures) ∙ not-true _ (c .if4 .taken) in
-    others (s .at) (s .w .now) (split (s .s .now)) _ _ _ (c .before .before .before .before .before .before .before .call-number .ensures .0)
-    (c .before .before .before .before .before .argument-count .ensures .0) (c .before .before .before .before .count-words .ensures .0)
-    (c .before .before .before .before .before .before .if1 .left) (c .before .before .before .if2 .left) (c .before .before .if3 .left) others-here
+    others (s .at) (s .w .now) (split (s .s .now)) _ _ _ (call-number .ensures .0)
+    (argument-count .ensures .0) (c .before .before .before .before .count-words .ensures .0)
+    (first .left) (c .before .before .before .if2 .left) (c .before .before .if3 .left) others-here
 
 add-if5 : tie.Need-add-if5
 add-if5 c = search needs
@@ -60,20 +64,28 @@ add-if5-2 c = omega (arith, c .before .before .before .before .before .argument-
 
 returns-5 : tie.Need-returns-5
 returns-5 c =
+    let call-number = c .before .before .before .before .before .before .before .before .call-number in
+    let first = c .before .before .before .before .before .before .before .if1 in
+    let argument-count = c .before .before .before .before .before .before .argument-count in
+    let count-words = c .before .before .before .before .before .count-words in
     let s = c .before .before .before .before .before .before .before .before .before .before .before .args in
     let numbers = sym (c .before .before .all-numbers .ensures) ∙ not-false _ (c .before .if4 .left) in
-    long (s .at) (s .w .now) (split (s .s .now)) _ _ _ (c .before .before .before .before .before .before .before .before .call-number .ensures .0)
-    (c .before .before .before .before .before .before .argument-count .ensures .0) (c .before .before .before .before .before .count-words .ensures .0)
-    (c .before .before .before .before .before .before .before .if1 .left) (c .before .before .before .before .if2 .left)
+    long (s .at) (s .w .now) (split (s .s .now)) _ _ _ (call-number .ensures .0)
+    (argument-count .ensures .0) (count-words .ensures .0)
+    (first .left) (c .before .before .before .before .if2 .left)
     (c .before .before .before .if3 .left) numbers (c .if5 .taken)
 
 returns-6 : tie.Need-returns-6
 returns-6 c =
+    let call-number = c .before .before .before .before .before .before .before .before .call-number in
+    let first = c .before .before .before .before .before .before .before .if1 in
+    let argument-count = c .before .before .before .before .before .before .argument-count in
+    let count-words = c .before .before .before .before .before .count-words in
     let s = c .before .before .before .before .before .before .before .before .before .before .before .args in
     let numbers = sym (c .before .before .all-numbers .ensures) ∙ not-false _ (c .before .if4 .left) in
-    none (s .at) (s .w .now) (split (s .s .now)) _ _ _ (c .before .before .before .before .before .before .before .before .call-number .ensures .0)
-    (c .before .before .before .before .before .before .argument-count .ensures .0) (c .before .before .before .before .before .count-words .ensures .0)
-    (c .before .before .before .before .before .before .before .if1 .left) (c .before .before .before .before .if2 .left)
+    none (s .at) (s .w .now) (split (s .s .now)) _ _ _ (call-number .ensures .0)
+    (argument-count .ensures .0) (count-words .ensures .0)
+    (first .left) (c .before .before .before .before .if2 .left)
     (c .before .before .before .if3 .left) numbers (c .if5 .left)
 
 pub reason-spec : {M : Type 1} → statement M

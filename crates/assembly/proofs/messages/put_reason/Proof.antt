@@ -116,12 +116,14 @@ returns-7 c =
 returns-8 : tie.Need-returns-8
 unfolding because
 returns-8 c =
+    let first = c .before .before .before .before .before .before .if1 in
+    let second = c .before .before .before .before .before .if2 in
     let s = c .before .before .before .before .before .before .before .before .args in (
       rw (
         because,
-        ne-eqb (s .why) 1 (c .before .before .before .before .before .before .if1 .left),
+        ne-eqb (s .why) 1 (first .left),
         ne-eqb (s .why) 2
-            (c .before .before .before .before .before .if2 .left),
+            (second .left),
         ne-eqb (s .why) 3 (c .before .before .before .before .if3 .left),
         ne-eqb (s .why) 4
             (c .before .before .before .if4 .left),

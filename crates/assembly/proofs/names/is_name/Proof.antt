@@ -130,6 +130,14 @@ same-requires-12 c κs = search needs
 
 returns-12 : tie.Need-returns-12
 returns-12 c =
+    let first = c .before .before .before .before .before .before .before .before .before .before .before .before .if1 in
+    let second = c .before .before .before .before .before .before .before .before .before .before .before .if2 in
+    let third = c .before .before .before .before .before .before .before .before .before .before .if3 in
+    let fourth = c .before .before .before .before .before .before .before .before .before .if4 in
+    let if5 = c .before .before .before .before .before .before .before .before .if5 in
+    let if6 = c .before .before .before .before .before .before .before .if6 in
+    let if7 = c .before .before .before .before .before .before .if7 in
+    let if8 = c .before .before .before .before .before .if8 in
     let s = c .before .before .before .before .before .before .before .before .before .before .before .before .before .before in
     let k =
     past
@@ -141,14 +149,14 @@ returns-12 c =
     (past
     (past
     (past
-    (past (past (s .pre .0) (c .before .before .before .before .before .before .before .before .before .before .before .before .if1 .left))
-    (c .before .before .before .before .before .before .before .before .before .before .before .if2 .left))
-    (c .before .before .before .before .before .before .before .before .before .before .if3 .left))
-    (c .before .before .before .before .before .before .before .before .before .if4 .left))
-    (c .before .before .before .before .before .before .before .before .if5 .left))
-    (c .before .before .before .before .before .before .before .if6 .left))
-    (c .before .before .before .before .before .before .if7 .left))
-    (c .before .before .before .before .before .if8 .left))
+    (past (past (s .pre .0) (first .left))
+    (second .left))
+    (third .left))
+    (fourth .left))
+    (if5 .left))
+    (if6 .left))
+    (if7 .left))
+    (if8 .left))
     (c .before .before .before .before .if9 .left))
     (c .before .before .before .if10 .left))
     (c .before .before .if11 .left) in

@@ -24,12 +24,14 @@ cast-result : tie.Need-cast-result Inv-loop μ-loop
 cast-result c = search needs
 
 returns : tie.Need-returns Inv-loop μ-loop
-returns c = (
-  sym
-      (c .before .before .before .loop .inv .2 ∙ is-here (c .before .before .before .before .before .args .w .now) (c .before .before .before .loop .k)
-      (omega arith) (omega arith) (sym (c .before .is-name .ensures) ∙ c .if1 .taken)),
-  search needs,
-)
+returns c =
+    let s = c .before .before .before .before .before .args in
+    let p = c .before .before .before .loop in (
+      sym
+          (p .inv .2 ∙ is-here (s .w .now) (p .k)
+          (omega arith) (omega arith) (sym (c .before .is-name .ensures) ∙ c .if1 .taken)),
+      search needs,
+    )
 
 add-k : tie.Need-add-k Inv-loop μ-loop
 add-k c = search needs
@@ -38,12 +40,14 @@ loop-less : tie.Need-loop-less Inv-loop μ-loop
 loop-less c = search needs
 
 loop-again : tie.Need-loop-again Inv-loop μ-loop
-loop-again c = (
-  search needs,
-  search needs,
-  c .before .before .before .loop .inv .2 ∙ is-later (c .before .before .before .before .before .args .w .now)
-      (c .before .before .before .loop .k) (omega arith) (omega arith) (sym (c .before .is-name .ensures) ∙ c .if1 .left),
-)
+loop-again c =
+    let s = c .before .before .before .before .before .args in
+    let p = c .before .before .before .loop in (
+      search needs,
+      search needs,
+      p .inv .2 ∙ is-later (s .w .now)
+          (p .k) (omega arith) (omega arith) (sym (c .before .is-name .ensures) ∙ c .if1 .left),
+    )
 
 returns-2 : tie.Need-returns-2 Inv-loop μ-loop
 returns-2 c = (sym (c .before .loop .inv .2 ∙ is-nowhere (c .before .before .before .args .w .now) (c .before .loop .k) (omega arith)), search needs)

@@ -29,9 +29,11 @@ shared-slice-read-if2-2 c = search needs
 
 returns-2 : tie.Need-returns-2 Inv-loop μ-loop
 returns-2 c =
+    let s = c .before .before .before .before .before .before .args in
+    let p = c .before .before .before .before .loop in
     sym
-    (c .before .before .before .before .loop .inv .2 ∙ differs (c .before .before .before .before .before .before .args .a .now)
-    (c .before .before .before .before .before .before .args .b .now) (c .before .before .before .before .loop .i) (omega arith) (omega arith)
+    (p .inv .2 ∙ differs (s .a .now)
+    (s .b .now) (p .i) (omega arith) (omega arith)
     (c .if2 .taken))
 
 add-i : tie.Need-add-i Inv-loop μ-loop
@@ -41,17 +43,20 @@ loop-less : tie.Need-loop-less Inv-loop μ-loop
 loop-less c = search needs
 
 loop-again : tie.Need-loop-again Inv-loop μ-loop
-loop-again c = (
-  search needs,
-  search needs,
-  c .before .before .before .before .loop .inv .2 ∙ agrees (c .before .before .before .before .before .before .args .a .now)
-      (c .before .before .before .before .before .before .args .b .now) (c .before .before .before .before .loop .i) (omega arith) (omega arith) (c .if2 .left),
-)
+loop-again c =
+    let s = c .before .before .before .before .before .before .args in
+    let p = c .before .before .before .before .loop in (
+      search needs,
+      search needs,
+      p .inv .2 ∙ agrees (s .a .now)
+          (s .b .now) (p .i) (omega arith) (omega arith) (c .if2 .left),
+    )
 
 returns-3 : tie.Need-returns-3 Inv-loop μ-loop
 returns-3 c =
+    let s = c .before .before .before .args in
     sym
-    (c .before .loop .inv .2 ∙ both-over (c .before .before .before .args .a .now) (c .before .before .before .args .b .now) (c .before .loop .i)
+    (c .before .loop .inv .2 ∙ both-over (s .a .now) (s .b .now) (c .before .loop .i)
     (omega arith) (omega arith))
 
 pub same-spec : {M : Type 1} → statement M

@@ -27,9 +27,11 @@ is-digit-requires c κs = search needs
 
 returns : tie.Need-returns Inv-loop μ-loop
 returns c =
+    let s = c .before .before .before .before .before .before .args in
+    let p = c .before .before .before .before .loop in
     sym
-    (c .before .before .before .before .loop .inv .1 ∙ no-digit (c .before .before .before .before .before .before .args .w .now)
-    (c .before .before .before .before .loop .i) (c .before .before .before .loop-test .taken)
+    (p .inv .1 ∙ no-digit (s .w .now)
+    (p .i) (c .before .before .before .loop-test .taken)
     (sym (c .before .is-digit .ensures) ∙ not-true _ (c .if1 .taken)))
 
 add-i : tie.Need-add-i Inv-loop μ-loop
@@ -39,12 +41,14 @@ loop-less : tie.Need-loop-less Inv-loop μ-loop
 loop-less c = search needs
 
 loop-again : tie.Need-loop-again Inv-loop μ-loop
-loop-again c = (
-  search needs,
-  c .before .before .before .before .loop .inv .1 ∙ a-digit (c .before .before .before .before .before .before .args .w .now)
-      (c .before .before .before .before .loop .i) (c .before .before .before .loop-test .taken)
-      (sym (c .before .is-digit .ensures) ∙ not-false _ (c .if1 .left)),
-)
+loop-again c =
+    let s = c .before .before .before .before .before .before .args in
+    let p = c .before .before .before .before .loop in (
+      search needs,
+      p .inv .1 ∙ a-digit (s .w .now)
+          (p .i) (c .before .before .before .loop-test .taken)
+          (sym (c .before .is-digit .ensures) ∙ not-false _ (c .if1 .left)),
+    )
 
 returns-2 : tie.Need-returns-2 Inv-loop μ-loop
 returns-2 c = sym (c .before .loop .inv .1 ∙ digits-over (c .before .before .before .args .w .now) (c .before .loop .i) (omega arith))

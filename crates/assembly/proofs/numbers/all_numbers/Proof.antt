@@ -40,9 +40,11 @@ is-number-requires c κs = search needs
 
 returns-2 : tie.Need-returns-2 Inv-loop μ-loop
 returns-2 c =
+    let s = c .before .before .before .before .before .before .before .args in
+    let p = c .before .before .before .before .before .loop in
     let n = c .before .before .before .before .next-word .ensures in
     sym
-    (c .before .before .before .before .before .loop .inv .1 ∙ no-number (c .before .before .before .before .before .before .before .args .s .now) n
+    (p .inv .1 ∙ no-number (s .s .now) n
     (omega (arith, n .order, c .before .before .before .if1 .left)) (sym (c .before .is-number .ensures) ∙ not-true _ (c .if2 .taken)))
 
 loop-less : tie.Need-loop-less Inv-loop μ-loop
@@ -51,9 +53,11 @@ loop-less c =
 
 loop-again : tie.Need-loop-again Inv-loop μ-loop
 loop-again c =
+    let s = c .before .before .before .before .before .before .before .args in
+    let p = c .before .before .before .before .before .loop in
     let n = c .before .before .before .before .next-word .ensures in (
       n .within,
-      c .before .before .before .before .before .loop .inv .1 ∙ a-number (c .before .before .before .before .before .before .before .args .s .now) n
+      p .inv .1 ∙ a-number (s .s .now) n
           (omega (arith, n .order, c .before .before .before .if1 .left)) (sym (c .before .is-number .ensures) ∙ not-false _ (c .if2 .left)),
     )
 

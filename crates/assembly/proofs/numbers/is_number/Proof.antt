@@ -17,7 +17,8 @@ all-digits-requires c κs = search needs
 
 returns-3 : tie.Need-returns-3
 returns-3 c =
-    not-digits (c .before .before .before .before .before .args .w .now) (c .before .before .before .if1 .left) (c .before .before .if2 .left)
+    let s = c .before .before .before .before .before .args in
+    not-digits (s .w .now) (c .before .before .before .if1 .left) (c .before .before .if2 .left)
     (sym (c .before .all-digits .ensures) ∙ not-true _ (c .if3 .taken))
 
 value-requires : tie.Need-value-requires
@@ -25,7 +26,8 @@ value-requires c κs = (c .before .before .if2 .left, sym (c .before .all-digits
 
 returns-4 : tie.Need-returns-4
 returns-4 c =
-    by-value (c .before .before .before .before .before .before .args .w .now) (c .value .result) (c .before .before .before .before .if1 .left)
+    let s = c .before .before .before .before .before .before .args in
+    by-value (s .w .now) (c .value .result) (c .before .before .before .before .if1 .left)
     (c .before .before .before .if2 .left) (sym (c .before .before .all-digits .ensures) ∙ not-false _ (c .before .if3 .left)) (c .value .ensures)
 
 pub is-number-spec : {M : Type 1} → statement M

@@ -27,17 +27,20 @@ shared-slice-read-v c = search needs
 
 sub-v : tie.Need-sub-v Inv-loop μ-loop
 sub-v c =
-    digit-here (c .before .before .before .args .w .now) (c .before .before .loop .i) (c .before .loop-test .taken) (c .before .before .loop .inv .2) .0 .0
+    let p = c .before .before .loop in
+    digit-here (c .before .before .before .args .w .now) (p .i) (c .before .loop-test .taken) (p .inv .2) .0 .0
 
 cast-v : tie.Need-cast-v Inv-loop μ-loop
 cast-v c =
-    let d = digit-here (c .before .before .before .args .w .now) (c .before .before .loop .i) (c .before .loop-test .taken) (c .before .before .loop .inv .2)
+    let p = c .before .before .loop in
+    let d = digit-here (c .before .before .before .args .w .now) (p .i) (c .before .loop-test .taken) (p .inv .2)
     in omega arith
 
 add-v : tie.Need-add-v Inv-loop μ-loop
 add-v c =
-    let d = digit-here (c .before .before .before .args .w .now) (c .before .before .loop .i) (c .before .loop-test .taken) (c .before .before .loop .inv .2)
-    in omega (arith, ten-digits (c .before .before .loop .v) (c .before .before .loop .i) (c .before .before .loop .inv .3) (omega arith))
+    let p = c .before .before .loop in
+    let d = digit-here (c .before .before .before .args .w .now) (p .i) (c .before .loop-test .taken) (p .inv .2)
+    in omega (arith, ten-digits (p .v) (p .i) (p .inv .3) (omega arith))
 
 add-i : tie.Need-add-i Inv-loop μ-loop
 add-i c = search needs
@@ -47,10 +50,11 @@ loop-less c = search needs
 
 loop-again : tie.Need-loop-again Inv-loop μ-loop
 loop-again c =
+    let a = c .before .before .before .args in
     let s = c .before .before .loop in
-    let d = digit-here (c .before .before .before .args .w .now) (s .i) (c .before .loop-test .taken) (s .inv .2) in (
+    let d = digit-here (a .w .now) (s .i) (c .before .loop-test .taken) (s .inv .2) in (
       search needs,
-      sym (value-more (c .before .before .before .args .w .now) (s .i) (s .v) (c .before .loop-test .taken)) ∙ s .inv .1,
+      sym (value-more (a .w .now) (s .i) (s .v) (c .before .loop-test .taken)) ∙ s .inv .1,
       d .1,
       grows (s .v) (s .i) _ (s .inv .3) (omega (arith, d .0)),
     )

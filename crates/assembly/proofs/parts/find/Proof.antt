@@ -23,9 +23,10 @@ shared-slice-read-if1 c = search needs
 
 returns : tie.Need-returns Inv-loop μ-loop
 returns c =
+    let s = c .before .before .before .before .args in
     omega (
       arith,
-      found (c .before .before .before .before .args .s .now) (c .before .before .before .before .args .b) (c .before .before .before .loop .i)
+      found (s .s .now) (s .b) (c .before .before .before .loop .i)
           (c .before .before .loop-test .taken) (c .if1 .taken),
     )
 
@@ -36,17 +37,20 @@ loop-less : tie.Need-loop-less Inv-loop μ-loop
 loop-less c = search needs
 
 loop-again : tie.Need-loop-again Inv-loop μ-loop
-loop-again c = (
-  search needs,
-  omega (
-    arith,
-    passed (c .before .before .before .before .args .s .now) (c .before .before .before .before .args .b) (c .before .before .before .loop .i)
-        (c .before .before .loop-test .taken) (c .if1 .left),
-  ),
-)
+loop-again c =
+    let s = c .before .before .before .before .args in (
+      search needs,
+      omega (
+        arith,
+        passed (s .s .now) (s .b) (c .before .before .before .loop .i)
+            (c .before .before .loop-test .taken) (c .if1 .left),
+      ),
+    )
 
 returns-2 : tie.Need-returns-2 Inv-loop μ-loop
-returns-2 c = omega (arith, missing (c .before .before .args .s .now) (c .before .before .args .b) (c .before .loop .i) (omega arith))
+returns-2 c =
+    let s = c .before .before .args in
+    omega (arith, missing (s .s .now) (s .b) (c .before .loop .i) (omega arith))
 
 pub find-spec : {M : Type 1} → statement M
 find-spec =

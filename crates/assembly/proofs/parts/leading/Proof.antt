@@ -27,9 +27,10 @@ is-kind-requires c κs = search needs
 
 returns : tie.Need-returns Inv-loop μ-loop
 returns c =
+    let s = c .before .before .before .before .before .before .args in
     omega (
       arith,
-      stops (c .before .before .before .before .before .before .args .s .now) (c .before .before .before .before .before .before .args .t)
+      stops (s .s .now) (s .t)
           (c .before .before .before .before .loop .i) (c .before .before .before .loop-test .taken)
           (sym (c .before .is-kind .ensures) ∙ not-true _ (c .if1 .taken)),
     )
@@ -41,18 +42,21 @@ loop-less : tie.Need-loop-less Inv-loop μ-loop
 loop-less c = search needs
 
 loop-again : tie.Need-loop-again Inv-loop μ-loop
-loop-again c = (
-  search needs,
-  omega (
-    arith,
-    goes (c .before .before .before .before .before .before .args .s .now) (c .before .before .before .before .before .before .args .t)
-        (c .before .before .before .before .loop .i) (c .before .before .before .loop-test .taken)
-        (sym (c .before .is-kind .ensures) ∙ not-false _ (c .if1 .left)),
-  ),
-)
+loop-again c =
+    let s = c .before .before .before .before .before .before .args in (
+      search needs,
+      omega (
+        arith,
+        goes (s .s .now) (s .t)
+            (c .before .before .before .before .loop .i) (c .before .before .before .loop-test .taken)
+            (sym (c .before .is-kind .ensures) ∙ not-false _ (c .if1 .left)),
+      ),
+    )
 
 returns-2 : tie.Need-returns-2 Inv-loop μ-loop
-returns-2 c = omega (arith, over (c .before .before .before .args .s .now) (c .before .before .before .args .t) (c .before .loop .i) (omega arith))
+returns-2 c =
+    let s = c .before .before .before .args in
+    omega (arith, over (s .s .now) (s .t) (c .before .loop .i) (omega arith))
 
 pub leading-spec : {M : Type 1} → statement M
 leading-spec =

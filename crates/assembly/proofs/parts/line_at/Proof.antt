@@ -36,9 +36,12 @@ add-f c = search needs
 
 returns : tie.Need-returns
 returns c =
-    line-is (c .before .before .before .before .before .args .text .now) (c .before .before .before .before .before .args .i)
-    (c .before .before .find .result) (c .find2 .result) (c .before .before .before .before .before .pre) (c .before .before .find .ensures .0)
-    (c .before .before .find .ensures .1) (c .find2 .ensures .0) (c .find2 .ensures .1)
+    let s = c .before .before .before .before .before .args in
+    let h = c .before .before .before .before .before .pre in
+    let find = c .before .before .find in
+    line-is (s .text .now) (s .i)
+    (find .result) (c .find2 .result) (h) (find .ensures .0)
+    (find .ensures .1) (c .find2 .ensures .0) (c .find2 .ensures .1)
 
 pub line-at-spec : {M : Type 1} → statement M
 line-at-spec =

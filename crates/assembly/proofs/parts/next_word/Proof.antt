@@ -36,9 +36,12 @@ add-t12 c = search needs
 
 returns : tie.Need-returns
 returns c =
-    next-is (c .before .before .before .before .before .args .s .now) (c .before .before .before .before .before .args .i)
-    (c .before .before .leading .result) (c .leading2 .result) (c .before .before .before .before .before .pre) (c .before .before .leading .ensures .0)
-    (c .before .before .leading .ensures .1) (c .leading2 .ensures .0) (c .leading2 .ensures .1)
+    let s = c .before .before .before .before .before .args in
+    let h = c .before .before .before .before .before .pre in
+    let leading = c .before .before .leading in
+    next-is (s .s .now) (s .i)
+    (leading .result) (c .leading2 .result) (h) (leading .ensures .0)
+    (leading .ensures .1) (c .leading2 .ensures .0) (c .leading2 .ensures .1)
 
 pub next-word-spec : {M : Type 1} → statement M
 next-word-spec =

@@ -21,7 +21,9 @@ is-address-requires : tie.Need-is-address-requires
 is-address-requires c κs = search needs
 
 returns-2 : tie.Need-returns-2
-returns-2 c = rw (equal (c .before .before .before .before .read-word .ensures) refl (c .before .before .before .if1 .left), no (c .before .is-address .ensures ∙ ap (λ (w : ℕ). eqb w (address (c .before .before .before .before .before .before .args .b) (c .before .before .before .before .before .before .args .c .0))) (c .before .before .read-word2 .ensures)) (c .if2 .taken))
+returns-2 c =
+    let s = c .before .before .before .before .before .before .args in
+    rw (equal (c .before .before .before .before .read-word .ensures) refl (c .before .before .before .if1 .left), no (c .before .is-address .ensures ∙ ap (λ (w : ℕ). eqb w (address (s .b) (s .c .0))) (c .before .before .read-word2 .ensures)) (c .if2 .taken))
 
 read-word-requires-3 : tie.Need-read-word-requires-3
 read-word-requires-3 c κs = search needs
@@ -30,7 +32,12 @@ is-address-requires-2 : tie.Need-is-address-requires-2
 is-address-requires-2 c κs = search needs
 
 returns-3 : tie.Need-returns-3
-returns-3 c = rw (equal (c .before .before .before .before .before .before .read-word .ensures) refl (c .before .before .before .before .before .if1 .left), yes (c .before .before .before .is-address .ensures ∙ ap (λ (w : ℕ). eqb w (address (c .before .before .before .before .before .before .before .before .args .b) (c .before .before .before .before .before .before .before .before .args .c .0))) (c .before .before .before .before .read-word2 .ensures)) (c .before .before .if2 .left)) (c .is-address2 .ensures ∙ ap (λ (w : ℕ). eqb w (address (c .before .before .before .before .before .before .before .before .args .b) (c .before .before .before .before .before .before .before .before .args .d .0))) (c .before .read-word3 .ensures))
+returns-3 c =
+    let s = c .before .before .before .before .before .before .before .before .args in
+    let read-word = c .before .before .before .before .before .before .read-word in
+    let first = c .before .before .before .before .before .if1 in
+    rw (equal (read-word .ensures) refl (first .left), yes (c .before .before .before .is-address .ensures ∙ ap (λ (w : ℕ). eqb w (address (s .b) (s .c .0))) (c .before .before .before .before .read-word2 .ensures)) (c .before .before .if2 .left))
+    (c .is-address2 .ensures ∙ ap (λ (w : ℕ). eqb w (address (s .b) (s .d .0))) (c .before .read-word3 .ensures))
 
 pub child-names-spec : {M : Type 1} → statement M
 child-names-spec =

@@ -22,10 +22,14 @@ address-requires : tie.Need-address-requires
 address-requires c κs = (c .before .pre .0, omega (arith, address-small (c .before .args .b) (6 + 3 * c .before .args .i + c .before .args .k) (c .before .pre .0 .1) (omega arith)))
 
 add-result : tie.Need-add-result
-add-result c = omega (arith, address-small (c .before .before .args .b) (6 + 3 * c .before .before .args .i + c .before .before .args .k) (c .before .before .pre .0 .1) (omega arith))
+add-result c =
+    let s = c .before .before .args in
+    omega (arith, address-small (s .b) (6 + 3 * s .i + s .k) (c .before .before .pre .0 .1) (omega arith))
 
 returns : tie.Need-returns
-returns c = rw (lt-ltb (c .before .before .args .i) (threesFor (c .before .before .args .b) (c .before .before .args .n)) (omega arith)) (ap (λ (x : ℕ). x + 1) (c .address .ensures))
+returns c =
+    let s = c .before .before .args in
+    rw (lt-ltb (s .i) (threesFor (s .b) (s .n)) (omega arith)) (ap (λ (x : ℕ). x + 1) (c .address .ensures))
 
 returns-2 : tie.Need-returns-2
 returns-2 c = rw (le-ltb (c .before .args .i) (threesFor (c .before .args .b) (c .before .args .n)) (omega arith))

@@ -24,7 +24,8 @@ zero-from-requires c κs = search needs
 
 returns-3 : tie.Need-returns-3
 unfolding headerTest
-returns-3 c = rw (yes (c .before .before .before .before .size-test .ensures) (c .before .before .before .if1 .left), yes (c .before .before .offsets-test .ensures) (c .before .if2 .left)) (c .zero-from .ensures)
+returns-3 c = rw (yes (c .before .before .before .before .size-test .ensures) (c .before .before .before .if1 .left), yes (c .before .before .offsets-test .ensures) (c .before .if2 .left))
+    (c .zero-from .ensures)
 
 pub header-test-spec : {M : Type 1} → statement M
 header-test-spec =

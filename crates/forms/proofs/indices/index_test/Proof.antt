@@ -13,16 +13,25 @@ three-links-requires : tie.Need-three-links-requires
 three-links-requires c κs = search needs
 
 returns : tie.Need-returns
-returns c = index-wrong (c .before .before .before .before .args .b) (c .before .before .before .before .args .m .now) (c .before .before .before .before .args .o .descriptor .0) (c .before .before .before .before .args .i) (c .before .before .words-at .ensures) (no (c .before .three-links .ensures) (c .if1 .taken))
+returns c =
+    let s = c .before .before .before .before .args in
+    index-wrong (s .b) (s .m .now) (s .o .descriptor .0) (s .i) (c .before .before .words-at .ensures) (no (c .before .three-links .ensures) (c .if1 .taken))
 
 returns-2 : tie.Need-returns-2
-returns-2 c = index-none (c .before .before .before .before .before .before .args .b) (c .before .before .before .before .before .before .args .m .now) (c .before .before .before .before .before .before .args .o .descriptor .0) (c .before .before .before .before .before .before .args .i) (c .before .before .before .before .words-at .ensures) (yes (c .before .before .before .three-links .ensures) (c .before .before .if1 .left)) (c .if2 .taken)
+returns-2 c =
+    let s = c .before .before .before .before .before .before .args in
+    index-none (s .b) (s .m .now) (s .o .descriptor .0) (s .i) (c .before .before .before .before .words-at .ensures)
+    (yes (c .before .before .before .three-links .ensures) (c .before .before .if1 .left)) (c .if2 .taken)
 
 listed-once-requires : tie.Need-listed-once-requires
 listed-once-requires c κs = search needs
 
 returns-3 : tie.Need-returns-3
-returns-3 c = c .listed-once .ensures ∙ index-some (c .before .before .before .before .before .before .before .args .b) (c .before .before .before .before .before .before .before .args .m .now) (c .before .before .before .before .before .before .before .args .o .descriptor .0) (c .before .before .before .before .before .before .before .args .i) (c .before .before .before .before .before .words-at .ensures) (yes (c .before .before .before .before .three-links .ensures) (c .before .before .before .if1 .left)) (c .before .if2 .left)
+returns-3 c =
+    let s = c .before .before .before .before .before .before .before .args in
+    let words-at = c .before .before .before .before .before .words-at in
+    c .listed-once .ensures ∙ index-some (s .b) (s .m .now) (s .o .descriptor .0) (s .i) (words-at .ensures)
+    (yes (c .before .before .before .before .three-links .ensures) (c .before .before .before .if1 .left)) (c .before .if2 .left)
 
 pub index-test-spec : {M : Type 1} → statement M
 index-test-spec =

@@ -21,7 +21,9 @@ page-words-requires : tie.Need-page-words-requires Inv-loop μ-loop
 page-words-requires c κs = search needs
 
 next-used-requires : tie.Need-next-used-requires Inv-loop μ-loop
-next-used-requires c κs = (c .before .before .pre .0, (c .before .before .pre .1 .named, omega arith))
+next-used-requires c κs =
+    let h = c .before .before .pre in
+    (h .0, (h .1 .named, omega arith))
 
 loop-holds : tie.Need-loop-holds Inv-loop μ-loop
 loop-holds c =
@@ -30,25 +32,35 @@ loop-holds c =
     (k .high, skip-on (s .b) (s .m .now) (s .o .descriptor .0) k (all-start (indexTest (s .b) (s .m .now) (s .o .descriptor .0)) (pageWords (s .b)) 0 refl refl))
 
 index-test-requires : tie.Need-index-test-requires Inv-loop μ-loop
-index-test-requires c κs = (c .before .before .before .before .before .pre .0, (c .before .before .before .before .before .pre .1, omega arith))
+index-test-requires c κs =
+    let h = c .before .before .before .before .before .pre in
+    (h .0, (h .1, omega arith))
 
 returns : tie.Need-returns Inv-loop μ-loop
-returns c = let s = c .before .before .before .before .before .before .before .args in all-stop (indexTest (s .b) (s .m .now) (s .o .descriptor .0)) (pageWords (s .b)) (c .before .before .before .loop .i) (omega arith) (c .before .index-test .ensures) (c .if1 .taken) (c .before .before .before .loop .inv .1)
+returns c =
+    let p = c .before .before .before .loop in
+    let s = c .before .before .before .before .before .before .before .args in all-stop (indexTest (s .b) (s .m .now) (s .o .descriptor .0)) (pageWords (s .b)) (p .i) (omega arith) (c .before .index-test .ensures) (c .if1 .taken) (p .inv .1)
 
 add-next-used : tie.Need-add-next-used Inv-loop μ-loop
 add-next-used c = omega arith
 
 next-used-requires-2 : tie.Need-next-used-requires-2 Inv-loop μ-loop
-next-used-requires-2 c κs = (c .before .before .before .before .before .before .before .pre .0, (c .before .before .before .before .before .before .before .pre .1 .named, omega arith))
+next-used-requires-2 c κs =
+    let h = c .before .before .before .before .before .before .before .pre in
+    (h .0, (h .1 .named, omega arith))
 
 loop-less : tie.Need-loop-less Inv-loop μ-loop
 loop-less c = omega (arith, c .next-used2 .ensures .low, c .next-used2 .ensures .high)
 
 loop-again : tie.Need-loop-again Inv-loop μ-loop
 loop-again c =
+    let p = c .before .before .before .before .loop in
     let s = c .before .before .before .before .before .before .before .before .args in
-    let k = c .next-used2 .ensures in
-    (k .high, skip-on (s .b) (s .m .now) (s .o .descriptor .0) k (all-go (indexTest (s .b) (s .m .now) (s .o .descriptor .0)) (pageWords (s .b)) (c .before .before .before .before .loop .i) (omega arith) (c .before .before .index-test .ensures) (c .before .if1 .left) (c .before .before .before .before .loop .inv .1)))
+    let k = c .next-used2 .ensures in (
+      k .high,
+      skip-on (s .b) (s .m .now) (s .o .descriptor .0) k
+          (all-go (indexTest (s .b) (s .m .now) (s .o .descriptor .0)) (pageWords (s .b)) (p .i) (omega arith) (c .before .before .index-test .ensures) (c .before .if1 .left) (p .inv .1)),
+    )
 
 returns-2 : tie.Need-returns-2 Inv-loop μ-loop
 returns-2 c = let s = c .before .before .before .before .before .args in all-end (indexTest (s .b) (s .m .now) (s .o .descriptor .0)) (pageWords (s .b)) (c .before .loop .i) (omega arith) (c .before .loop .inv .1)

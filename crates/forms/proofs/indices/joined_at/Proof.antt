@@ -8,7 +8,9 @@ words-at-requires : tie.Need-words-at-requires
 words-at-requires c κs = search needs
 
 returns : tie.Need-returns
-returns c = joined-as (c .before .before .before .before .args .b) (c .before .before .before .before .args .m .now) (c .before .before .before .before .args .o .descriptor .0) (c .before .before .before .before .args .i) (c .before .before .words-at .ensures)
+returns c =
+    let s = c .before .before .before .before .args in
+    joined-as (s .b) (s .m .now) (s .o .descriptor .0) (s .i) (c .before .before .words-at .ensures)
 
 pub joined-at-spec : {M : Type 1} → statement M
 joined-at-spec = tie.close (tie.spec words-at-requires returns)

@@ -18,13 +18,17 @@ page-words-requires : tie.Need-page-words-requires Inv-loop μ-loop
 page-words-requires c κs = search needs
 
 loop-holds : tie.Need-loop-holds Inv-loop μ-loop
-loop-holds c = skip-none (c .before .before .args .b) (c .before .before .args .m .now) (c .before .before .args .o .descriptor .0) (c .before .before .args .i) (c .before .before .pre .1 .1)
+loop-holds c =
+    let s = c .before .before .args in
+    skip-none (s .b) (s .m .now) (s .o .descriptor .0) (s .i) (c .before .before .pre .1 .1)
 
 sub-loop : tie.Need-sub-loop Inv-loop μ-loop
 sub-loop c = omega (arith, c .loop .inv .high)
 
 row-empty-requires : tie.Need-row-empty-requires Inv-loop μ-loop
-row-empty-requires c κs = (c .before .before .before .before .pre .0, (c .before .before .before .before .pre .1 .0, omega arith))
+row-empty-requires c κs =
+    let h = c .before .before .before .before .pre in
+    (h .0, (h .1 .0, omega arith))
 
 returns : tie.Need-returns Inv-loop μ-loop
 returns c = c .before .before .before .loop .inv
@@ -36,7 +40,9 @@ loop-less : tie.Need-loop-less Inv-loop μ-loop
 loop-less c = search needs
 
 loop-again : tie.Need-loop-again Inv-loop μ-loop
-loop-again c = skip-by (c .before .before .before .before .before .before .args .b) (c .before .before .before .before .before .before .args .m .now) (c .before .before .before .before .before .before .args .o .descriptor .0) 8 (c .before .before .before .loop .inv) (omega arith) (yes (c .before .row-empty .ensures) (c .if1 .left))
+loop-again c =
+    let s = c .before .before .before .before .before .before .args in
+    skip-by (s .b) (s .m .now) (s .o .descriptor .0) 8 (c .before .before .before .loop .inv) (omega arith) (yes (c .before .row-empty .ensures) (c .if1 .left))
 
 returns-2 : tie.Need-returns-2 Inv-loop μ-loop
 returns-2 c = c .before .loop .inv

@@ -25,7 +25,9 @@ loop-holds : tie.Need-loop-holds Inv-loop μ-loop
 loop-holds c = c .next-row .ensures
 
 joined-at-requires : tie.Need-joined-at-requires Inv-loop μ-loop
-joined-at-requires c κs = (c .before .before .before .before .before .pre .0, (c .before .before .before .before .before .pre .1 .0, omega arith))
+joined-at-requires c κs =
+    let h = c .before .before .before .before .before .pre in
+    (h .0, (h .1 .0, omega arith))
 
 returns : tie.Need-returns Inv-loop μ-loop
 returns c = c .before .before .before .loop .inv
@@ -37,7 +39,10 @@ loop-less : tie.Need-loop-less Inv-loop μ-loop
 loop-less c = search needs
 
 loop-again : tie.Need-loop-again Inv-loop μ-loop
-loop-again c = skip-one (c .before .before .before .before .before .before .before .args .b) (c .before .before .before .before .before .before .before .args .m .now) (c .before .before .before .before .before .before .before .args .o .descriptor .0) (c .before .before .before .loop .inv) (omega arith) (sym (c .before .joined-at .ensures) ∙ eq-eqb (c .before .joined-at .result) 0 (c .if1 .left))
+loop-again c =
+    let s = c .before .before .before .before .before .before .before .args in
+    skip-one (s .b) (s .m .now) (s .o .descriptor .0) (c .before .before .before .loop .inv) (omega arith)
+    (sym (c .before .joined-at .ensures) ∙ eq-eqb (c .before .joined-at .result) 0 (c .if1 .left))
 
 returns-2 : tie.Need-returns-2 Inv-loop μ-loop
 returns-2 c = c .before .loop .inv

@@ -28,7 +28,9 @@ loop-holds c =
     (omega arith, ap (λ (x : ℕ). all (noTables (c .before .args .b) (c .before .args .m .now) (c .before .args .o .descriptor .0)) (from x (c .before .args .i))) e)
 
 joined-at-requires : tie.Need-joined-at-requires Inv-loop μ-loop
-joined-at-requires c κs = (c .before .before .before .pre .0, (c .before .before .before .pre .1 .0, omega arith))
+joined-at-requires c κs =
+    let h = c .before .before .before .pre in
+    (h .0, (h .1 .0, omega arith))
 
 add-k : tie.Need-add-k Inv-loop μ-loop
 add-k c = omega (arith, words-most (c .before .before .before .before .args .b) (c .before .before .before .before .pre .0 .1))
@@ -37,10 +39,19 @@ loop-less : tie.Need-loop-less Inv-loop μ-loop
 loop-less c = search needs
 
 loop-again : tie.Need-loop-again Inv-loop μ-loop
-loop-again c = (omega arith, join-more (noTables (c .before .before .before .before .args .b) (c .before .before .before .before .args .m .now) (c .before .before .before .before .args .o .descriptor .0)) (c .before .before .before .before .args .i + 8) (c .before .before .loop .k) (c .before .before .loop .joined) (c .joined-at .result) (omega arith) (c .joined-at .ensures) (c .before .before .loop .inv .1))
+loop-again c =
+    let s = c .before .before .before .before .args in
+    let p = c .before .before .loop in (
+      omega arith,
+      join-more (noTables (s .b) (s .m .now) (s .o .descriptor .0)) (s .i + 8) (p .k) (p .joined) (c .joined-at .result) (omega arith) (c .joined-at .ensures)
+          (p .inv .1),
+    )
 
 returns : tie.Need-returns Inv-loop μ-loop
-returns c = join-end (noTables (c .before .before .before .args .b) (c .before .before .before .args .m .now) (c .before .before .before .args .o .descriptor .0)) (c .before .before .before .args .i + 8) (c .before .loop .k) (c .before .loop .joined) (sym (all-end (noTables (c .before .before .before .args .b) (c .before .before .before .args .m .now) (c .before .before .before .args .o .descriptor .0)) (c .before .before .before .args .i + 8) (c .before .loop .k) (omega arith) refl)) (c .before .loop .inv .1)
+returns c =
+    let s = c .before .before .before .args in
+    join-end (noTables (s .b) (s .m .now) (s .o .descriptor .0)) (s .i + 8) (c .before .loop .k) (c .before .loop .joined)
+    (sym (all-end (noTables (s .b) (s .m .now) (s .o .descriptor .0)) (s .i + 8) (c .before .loop .k) (omega arith) refl)) (c .before .loop .inv .1)
 
 pub row-empty-spec : {M : Type 1} → statement M
 row-empty-spec =

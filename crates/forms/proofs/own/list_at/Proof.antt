@@ -14,7 +14,9 @@ read-requires : tie.Need-read-requires
 read-requires c κs = search needs
 
 returns : tie.Need-returns
-returns c = word-by-index (c .before .before .before .args .b) (c .before .before .before .args .m .now) (c .before .before .before .args .i) (c .read .ensures) (c .before .index .ensures .0) (c .before .before .before .pre .1 .0 .at-list)
+returns c =
+    let s = c .before .before .before .args in
+    word-by-index (s .b) (s .m .now) (s .i) (c .read .ensures) (c .before .index .ensures .0) (c .before .before .before .pre .1 .0 .at-list)
 
 pub list-at-spec : {M : Type 1} → statement M
 list-at-spec = tie.close (tie.spec index-requires add-read read-requires returns)

@@ -26,7 +26,12 @@ pair-form-requires : tie.Need-pair-form-requires Inv-loop μ-loop
 pair-form-requires c κs = search needs
 
 returns : tie.Need-returns Inv-loop μ-loop
-returns c = all-stop (pairForm (c .before .before .before .before .before .before .args .b) (c .before .before .before .before .before .before .args .m .now) (c .before .before .before .before .before .before .args .p .0) (c .before .before .before .before .before .before .args .k)) (c .before .before .before .before .before .before .args .n) (c .before .before .before .before .loop .j) (omega arith) (c .before .pair-form .ensures ∙ pair-form-as (c .before .before .before .before .before .before .args .b) (c .before .before .before .before .before .before .args .m .now) (c .before .before .before .before .before .before .args .p .0) (c .before .before .before .before .before .before .args .k) (c .before .before .before .before .loop .j) (c .before .before .pair-at .ensures .0) (c .before .before .pair-at .ensures .1)) (c .if1 .taken) (c .before .before .before .before .loop .inv)
+returns c =
+    let s = c .before .before .before .before .before .before .args in
+    let p = c .before .before .before .before .loop in
+    let pair-at = c .before .before .pair-at in
+    all-stop (pairForm (s .b) (s .m .now) (s .p .0) (s .k)) (s .n) (p .j) (omega arith)
+    (c .before .pair-form .ensures ∙ pair-form-as (s .b) (s .m .now) (s .p .0) (s .k) (p .j) (pair-at .ensures .0) (pair-at .ensures .1)) (c .if1 .taken) (p .inv)
 
 add-j : tie.Need-add-j Inv-loop μ-loop
 add-j c = search needs
@@ -35,10 +40,17 @@ loop-less : tie.Need-loop-less Inv-loop μ-loop
 loop-less c = search needs
 
 loop-again : tie.Need-loop-again Inv-loop μ-loop
-loop-again c = all-go (pairForm (c .before .before .before .before .before .before .args .b) (c .before .before .before .before .before .before .args .m .now) (c .before .before .before .before .before .before .args .p .0) (c .before .before .before .before .before .before .args .k)) (c .before .before .before .before .before .before .args .n) (c .before .before .before .before .loop .j) (omega arith) (c .before .pair-form .ensures ∙ pair-form-as (c .before .before .before .before .before .before .args .b) (c .before .before .before .before .before .before .args .m .now) (c .before .before .before .before .before .before .args .p .0) (c .before .before .before .before .before .before .args .k) (c .before .before .before .before .loop .j) (c .before .before .pair-at .ensures .0) (c .before .before .pair-at .ensures .1)) (c .if1 .left) (c .before .before .before .before .loop .inv)
+loop-again c =
+    let s = c .before .before .before .before .before .before .args in
+    let p = c .before .before .before .before .loop in
+    let pair-at = c .before .before .pair-at in
+    all-go (pairForm (s .b) (s .m .now) (s .p .0) (s .k)) (s .n) (p .j) (omega arith)
+    (c .before .pair-form .ensures ∙ pair-form-as (s .b) (s .m .now) (s .p .0) (s .k) (p .j) (pair-at .ensures .0) (pair-at .ensures .1)) (c .if1 .left) (p .inv)
 
 returns-2 : tie.Need-returns-2 Inv-loop μ-loop
-returns-2 c = all-end (pairForm (c .before .before .before .args .b) (c .before .before .before .args .m .now) (c .before .before .before .args .p .0) (c .before .before .before .args .k)) (c .before .before .before .args .n) (c .before .loop .j) (omega arith) (c .before .loop .inv)
+returns-2 c =
+    let s = c .before .before .before .args in
+    all-end (pairForm (s .b) (s .m .now) (s .p .0) (s .k)) (s .n) (c .before .loop .j) (omega arith) (c .before .loop .inv)
 
 pub pairs-form-spec : {M : Type 1} → statement M
 pairs-form-spec =

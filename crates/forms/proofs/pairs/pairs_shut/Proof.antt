@@ -17,7 +17,8 @@ abbrev μ-loop : tie.MeasureT-loop
 μ-loop b m o p k n j₀ j = n - j
 
 loop-holds : tie.Need-loop-holds Inv-loop μ-loop
-loop-holds c = all-start (pairShut (c .before .args .b) (c .before .args .m .now) (c .before .args .o .descriptor .0) (c .before .args .p .0) (c .before .args .k)) (c .before .args .n) 0 refl refl
+loop-holds c = all-start (pairShut (c .before .args .b) (c .before .args .m .now) (c .before .args .o .descriptor .0) (c .before .args .p .0) (c .before .args .k))
+    (c .before .args .n) 0 refl refl
 
 pair-at-requires : tie.Need-pair-at-requires Inv-loop μ-loop
 pair-at-requires c κs = search needs
@@ -26,7 +27,13 @@ pair-shut-requires : tie.Need-pair-shut-requires Inv-loop μ-loop
 pair-shut-requires c κs = search needs
 
 returns : tie.Need-returns Inv-loop μ-loop
-returns c = all-stop (pairShut (c .before .before .before .before .before .before .args .b) (c .before .before .before .before .before .before .args .m .now) (c .before .before .before .before .before .before .args .o .descriptor .0) (c .before .before .before .before .before .before .args .p .0) (c .before .before .before .before .before .before .args .k)) (c .before .before .before .before .before .before .args .n) (c .before .before .before .before .loop .j) (omega arith) (c .before .pair-shut .ensures ∙ pair-shut-as (c .before .before .before .before .before .before .args .b) (c .before .before .before .before .before .before .args .m .now) (c .before .before .before .before .before .before .args .p .0) (c .before .before .before .before .before .before .args .k) (c .before .before .before .before .loop .j) (c .before .before .pair-at .ensures .0) (c .before .before .pair-at .ensures .1) (c .before .before .before .before .before .before .args .o .descriptor .0)) (c .if1 .taken) (c .before .before .before .before .loop .inv)
+returns c =
+    let s = c .before .before .before .before .before .before .args in
+    let p = c .before .before .before .before .loop in
+    let pair-at = c .before .before .pair-at in
+    all-stop (pairShut (s .b) (s .m .now) (s .o .descriptor .0) (s .p .0) (s .k)) (s .n) (p .j) (omega arith)
+    (c .before .pair-shut .ensures ∙ pair-shut-as (s .b) (s .m .now) (s .p .0) (s .k) (p .j) (pair-at .ensures .0) (pair-at .ensures .1) (s .o .descriptor .0))
+    (c .if1 .taken) (p .inv)
 
 add-j : tie.Need-add-j Inv-loop μ-loop
 add-j c = search needs
@@ -35,10 +42,18 @@ loop-less : tie.Need-loop-less Inv-loop μ-loop
 loop-less c = search needs
 
 loop-again : tie.Need-loop-again Inv-loop μ-loop
-loop-again c = all-go (pairShut (c .before .before .before .before .before .before .args .b) (c .before .before .before .before .before .before .args .m .now) (c .before .before .before .before .before .before .args .o .descriptor .0) (c .before .before .before .before .before .before .args .p .0) (c .before .before .before .before .before .before .args .k)) (c .before .before .before .before .before .before .args .n) (c .before .before .before .before .loop .j) (omega arith) (c .before .pair-shut .ensures ∙ pair-shut-as (c .before .before .before .before .before .before .args .b) (c .before .before .before .before .before .before .args .m .now) (c .before .before .before .before .before .before .args .p .0) (c .before .before .before .before .before .before .args .k) (c .before .before .before .before .loop .j) (c .before .before .pair-at .ensures .0) (c .before .before .pair-at .ensures .1) (c .before .before .before .before .before .before .args .o .descriptor .0)) (c .if1 .left) (c .before .before .before .before .loop .inv)
+loop-again c =
+    let s = c .before .before .before .before .before .before .args in
+    let p = c .before .before .before .before .loop in
+    let pair-at = c .before .before .pair-at in
+    all-go (pairShut (s .b) (s .m .now) (s .o .descriptor .0) (s .p .0) (s .k)) (s .n) (p .j) (omega arith)
+    (c .before .pair-shut .ensures ∙ pair-shut-as (s .b) (s .m .now) (s .p .0) (s .k) (p .j) (pair-at .ensures .0) (pair-at .ensures .1) (s .o .descriptor .0))
+    (c .if1 .left) (p .inv)
 
 returns-2 : tie.Need-returns-2 Inv-loop μ-loop
-returns-2 c = all-end (pairShut (c .before .before .before .args .b) (c .before .before .before .args .m .now) (c .before .before .before .args .o .descriptor .0) (c .before .before .before .args .p .0) (c .before .before .before .args .k)) (c .before .before .before .args .n) (c .before .loop .j) (omega arith) (c .before .loop .inv)
+returns-2 c =
+    let s = c .before .before .before .args in
+    all-end (pairShut (s .b) (s .m .now) (s .o .descriptor .0) (s .p .0) (s .k)) (s .n) (c .before .loop .j) (omega arith) (c .before .loop .inv)
 
 pub pairs-shut-spec : {M : Type 1} → statement M
 pairs-shut-spec =

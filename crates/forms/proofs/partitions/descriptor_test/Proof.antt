@@ -12,14 +12,18 @@ pairs-form-requires c κs = search needs
 
 returns : tie.Need-returns
 unfolding descriptorTest
-returns c = rw (no (c .before .pairs-form .ensures ∙ descriptor-pairs (c .before .before .before .args .b) (c .before .before .before .args .m .now) (c .before .before .before .args .d .0)) (c .if1 .taken))
+returns c =
+    let s = c .before .before .before .args in
+    rw (no (c .before .pairs-form .ensures ∙ descriptor-pairs (s .b) (s .m .now) (s .d .0)) (c .if1 .taken))
 
 read-word-requires : tie.Need-read-word-requires
 read-word-requires c κs = search needs
 
 returns-2 : tie.Need-returns-2
 unfolding descriptorTest
-returns-2 c = rw (yes (c .before .before .before .pairs-form .ensures ∙ descriptor-pairs (c .before .before .before .before .before .args .b) (c .before .before .before .before .before .args .m .now) (c .before .before .before .before .before .args .d .0)) (c .before .before .if1 .left), unequal (c .before .read-word .ensures) refl (c .if2 .taken))
+returns-2 c =
+    let s = c .before .before .before .before .before .args in
+    rw (yes (c .before .before .before .pairs-form .ensures ∙ descriptor-pairs (s .b) (s .m .now) (s .d .0)) (c .before .before .if1 .left), unequal (c .before .read-word .ensures) refl (c .if2 .taken))
 
 read-word-requires-2 : tie.Need-read-word-requires-2
 read-word-requires-2 c κs = search needs
@@ -29,14 +33,24 @@ physical-address-requires c κs = search needs
 
 returns-3 : tie.Need-returns-3
 unfolding descriptorTest
-returns-3 c = rw (yes (c .before .before .before .before .before .before .pairs-form .ensures ∙ descriptor-pairs (c .before .before .before .before .before .before .before .before .args .b) (c .before .before .before .before .before .before .before .before .args .m .now) (c .before .before .before .before .before .before .before .before .args .d .0)) (c .before .before .before .before .before .if1 .left), equal (c .before .before .before .before .read-word .ensures) refl (c .before .before .before .if2 .left), no (c .before .physical-address .ensures ∙ ap (physical (c .before .before .before .before .before .before .before .before .args .b) (c .before .before .before .before .before .before .before .before .args .m .now)) (c .before .before .read-word2 .ensures)) (c .if3 .taken))
+returns-3 c =
+    let s = c .before .before .before .before .before .before .before .before .args in
+    let pairs-form = c .before .before .before .before .before .before .pairs-form in
+    let first = c .before .before .before .before .before .if1 in
+    rw (yes (pairs-form .ensures ∙ descriptor-pairs (s .b) (s .m .now) (s .d .0)) (first .left), equal (c .before .before .before .before .read-word .ensures) refl (c .before .before .before .if2 .left), no (c .before .physical-address .ensures ∙ ap (physical (s .b) (s .m .now)) (c .before .before .read-word2 .ensures)) (c .if3 .taken))
 
 zero-from-requires : tie.Need-zero-from-requires
 zero-from-requires c κs = search needs
 
 returns-4 : tie.Need-returns-4
 unfolding descriptorTest
-returns-4 c = rw (yes (c .before .before .before .before .before .before .before .pairs-form .ensures ∙ descriptor-pairs (c .before .before .before .before .before .before .before .before .before .args .b) (c .before .before .before .before .before .before .before .before .before .args .m .now) (c .before .before .before .before .before .before .before .before .before .args .d .0)) (c .before .before .before .before .before .before .if1 .left), equal (c .before .before .before .before .before .read-word .ensures) refl (c .before .before .before .before .if2 .left), yes (c .before .before .physical-address .ensures ∙ ap (physical (c .before .before .before .before .before .before .before .before .before .args .b) (c .before .before .before .before .before .before .before .before .before .args .m .now)) (c .before .before .before .read-word2 .ensures)) (c .before .if3 .left)) (c .zero-from .ensures)
+returns-4 c =
+    let s = c .before .before .before .before .before .before .before .before .before .args in
+    let pairs-form = c .before .before .before .before .before .before .before .pairs-form in
+    let first = c .before .before .before .before .before .before .if1 in
+    let read-word = c .before .before .before .before .before .read-word in
+    rw (yes (pairs-form .ensures ∙ descriptor-pairs (s .b) (s .m .now) (s .d .0)) (first .left), equal (read-word .ensures) refl (c .before .before .before .before .if2 .left), yes (c .before .before .physical-address .ensures ∙ ap (physical (s .b) (s .m .now)) (c .before .before .before .read-word2 .ensures)) (c .before .if3 .left))
+    (c .zero-from .ensures)
 
 pub descriptor-test-spec : {M : Type 1} → statement M
 descriptor-test-spec =

@@ -25,26 +25,42 @@ list-test-requires : tie.Need-list-test-requires
 list-test-requires c κs = search needs
 
 returns-2 : tie.Need-returns-2
-returns-2 c = rw (forms-as (c .before .before .before .before .before .before .args .b) (c .before .before .before .before .before .before .args .m .now) (c .before .before .before .before .before .before .args .d .0), yes (c .before .before .before .before .descriptor-test .ensures) (c .before .before .before .if1 .left), no (c .before .list-test .ensures ∙ ap (listTest (c .before .before .before .before .before .before .args .b) (c .before .before .before .before .before .before .args .m .now)) (c .before .before .look-up .ensures .0)) (c .if2 .taken))
+returns-2 c =
+    let s = c .before .before .before .before .before .before .args in
+    rw (forms-as (s .b) (s .m .now) (s .d .0), yes (c .before .before .before .before .descriptor-test .ensures) (c .before .before .before .if1 .left), no (c .before .list-test .ensures ∙ ap (listTest (s .b) (s .m .now)) (c .before .before .look-up .ensures .0)) (c .if2 .taken))
 
 indices-test-requires : tie.Need-indices-test-requires
-indices-test-requires c κs = (c .before .before .before .before .before .before .pre, record { named = c .before .before .look-up .ensures .1; passed = yes (c .before .list-test .ensures) (c .if2 .left) })
+indices-test-requires c κs =
+    let h = c .before .before .before .before .before .before .pre in
+    (h, record { named = c .before .before .look-up .ensures .1; passed = yes (c .before .list-test .ensures) (c .if2 .left) })
 
 returns-3 : tie.Need-returns-3
 returns-3 c =
-    let b = c .before .before .before .before .before .before .before .before .args .b in
-    let m = c .before .before .before .before .before .before .before .before .args .m .now in
-    rw (forms-as b m (c .before .before .before .before .before .before .before .before .args .d .0), yes (c .before .before .before .before .before .before .descriptor-test .ensures) (c .before .before .before .before .before .if1 .left), yes (c .before .before .before .list-test .ensures ∙ ap (listTest b m) (c .before .before .before .before .look-up .ensures .0)) (c .before .before .if2 .left), no (c .before .indices-test .ensures ∙ ap (λ (x : ℕ). all (indexTest b m x) (from (pageWords b) 0)) (c .before .before .before .before .look-up .ensures .0)) (c .if3 .taken))
+    let s = c .before .before .before .before .before .before .before .before .args in
+    let descriptor-test = c .before .before .before .before .before .before .descriptor-test in
+    let first = c .before .before .before .before .before .if1 in
+    let look-up = c .before .before .before .before .look-up in
+    let b = s .b in
+    let m = s .m .now in
+    rw (forms-as b m (s .d .0), yes (descriptor-test .ensures) (first .left), yes (c .before .before .before .list-test .ensures ∙ ap (listTest b m) (look-up .ensures .0)) (c .before .before .if2 .left), no (c .before .indices-test .ensures ∙ ap (λ (x : ℕ). all (indexTest b m x) (from (pageWords b) 0)) (look-up .ensures .0)) (c .if3 .taken))
 
 threes-once-requires : tie.Need-threes-once-requires
-threes-once-requires c κs = (c .before .before .before .before .before .before .before .before .pre, record { named = c .before .before .before .before .look-up .ensures .1; passed = yes (c .before .before .before .list-test .ensures) (c .before .before .if2 .left) })
+threes-once-requires c κs =
+    let h = c .before .before .before .before .before .before .before .before .pre in (
+      h,
+      record { named = c .before .before .before .before .look-up .ensures .1; passed = yes (c .before .before .before .list-test .ensures) (c .before .before .if2 .left) },
+    )
 
 returns-4 : tie.Need-returns-4
 returns-4 c =
-    let b = c .before .before .before .before .before .before .before .before .before .args .b in
-    let m = c .before .before .before .before .before .before .before .before .before .args .m .now in
-    rw (forms-as b m (c .before .before .before .before .before .before .before .before .before .args .d .0), yes (c .before .before .before .before .before .before .before .descriptor-test .ensures) (c .before .before .before .before .before .before .if1 .left), yes (c .before .before .before .before .list-test .ensures ∙ ap (listTest b m) (c .before .before .before .before .before .look-up .ensures .0)) (c .before .before .before .if2 .left), yes (c .before .before .indices-test .ensures ∙ ap (λ (x : ℕ). all (indexTest b m x) (from (pageWords b) 0)) (c .before .before .before .before .before .look-up .ensures .0)) (c .before .if3 .left))
-    (c .threes-once .ensures ∙ ap (λ (x : ℕ). all (λ j. once (stands b m x j) (from (pageWords b) 0)) (from (threes b m x) 0)) (c .before .before .before .before .before .look-up .ensures .0))
+    let s = c .before .before .before .before .before .before .before .before .before .args in
+    let descriptor-test = c .before .before .before .before .before .before .before .descriptor-test in
+    let first = c .before .before .before .before .before .before .if1 in
+    let look-up = c .before .before .before .before .before .look-up in
+    let b = s .b in
+    let m = s .m .now in
+    rw (forms-as b m (s .d .0), yes (descriptor-test .ensures) (first .left), yes (c .before .before .before .before .list-test .ensures ∙ ap (listTest b m) (look-up .ensures .0)) (c .before .before .before .if2 .left), yes (c .before .before .indices-test .ensures ∙ ap (λ (x : ℕ). all (indexTest b m x) (from (pageWords b) 0)) (look-up .ensures .0)) (c .before .if3 .left))
+    (c .threes-once .ensures ∙ ap (λ (x : ℕ). all (λ j. once (stands b m x j) (from (pageWords b) 0)) (from (threes b m x) 0)) (look-up .ensures .0))
 
 pub forms-test-spec : {M : Type 1} → statement M
 forms-test-spec =

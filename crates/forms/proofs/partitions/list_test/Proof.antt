@@ -13,7 +13,9 @@ use Rattle.forms.proofs.partitions.list_test.Statement.{statement}
 use Rattle.forms.proofs.partitions.list_test.Tie as tie
 
 returns : tie.Need-returns
-returns c = list-many (c .before .before .args .b) (c .before .before .args .m .now) (c .before .before .args .o .descriptor .0) (omega (arith, c .before .before .pre .1 .counted))
+returns c =
+    let s = c .before .before .args in
+    list-many (s .b) (s .m .now) (s .o .descriptor .0) (omega (arith, c .before .before .pre .1 .counted))
 
 list-at-requires : tie.Need-list-at-requires
 list-at-requires c κs = search needs
@@ -36,14 +38,22 @@ pairs-form-requires c κs = search needs
 
 returns-3 : tie.Need-returns-3
 unfolding listTest
-returns-3 c = rw (equal (c .before .before .before .list-at .ensures) (ap (λ (n : ℕ). 1 + 6 * n) (c .before .before .before .before .before .before .pre .1 .counted)) (c .before .before .if2 .left), le-leb (threes (c .before .before .before .before .before .before .args .b) (c .before .before .before .before .before .before .args .m .now) (c .before .before .before .before .before .before .args .o .descriptor .0)) mostThrees (omega (arith, c .before .before .before .before .before .before .pre .1 .counted)), no (list-pairs (c .before .before .before .before .before .before .args .b) (c .before .before .before .before .before .before .args .m .now) (c .before .before .before .before .before .before .args .o .descriptor .0) (c .before .before .before .before .before .before .pre .1 .at-list) (c .before .before .before .before .before .before .pre .1 .counted) (c .before .pairs-form .ensures)) (c .if3 .taken))
+returns-3 c =
+    let h = c .before .before .before .before .before .before .pre in
+    let s = c .before .before .before .before .before .before .args in
+    rw (equal (c .before .before .before .list-at .ensures) (ap (λ (n : ℕ). 1 + 6 * n) (h .1 .counted)) (c .before .before .if2 .left), le-leb (threes (s .b) (s .m .now) (s .o .descriptor .0)) mostThrees (omega (arith, h .1 .counted)), no (list-pairs (s .b) (s .m .now) (s .o .descriptor .0) (h .1 .at-list) (h .1 .counted) (c .before .pairs-form .ensures)) (c .if3 .taken))
 
 zero-from-requires : tie.Need-zero-from-requires
 zero-from-requires c κs = search needs
 
 returns-4 : tie.Need-returns-4
 unfolding listTest
-returns-4 c = rw (equal (c .before .before .before .before .list-at .ensures) (ap (λ (n : ℕ). 1 + 6 * n) (c .before .before .before .before .before .before .before .pre .1 .counted)) (c .before .before .before .if2 .left), le-leb (threes (c .before .before .before .before .before .before .before .args .b) (c .before .before .before .before .before .before .before .args .m .now) (c .before .before .before .before .before .before .before .args .o .descriptor .0)) mostThrees (omega (arith, c .before .before .before .before .before .before .before .pre .1 .counted)), yes (list-pairs (c .before .before .before .before .before .before .before .args .b) (c .before .before .before .before .before .before .before .args .m .now) (c .before .before .before .before .before .before .before .args .o .descriptor .0) (c .before .before .before .before .before .before .before .pre .1 .at-list) (c .before .before .before .before .before .before .before .pre .1 .counted) (c .before .before .pairs-form .ensures)) (c .before .if3 .left)) (zero-as (c .before .before .before .before .before .before .before .args .b) (c .before .before .before .before .before .before .before .args .m .now) (c .before .before .before .before .before .before .before .pre .1 .at-list) (c .before .before .before .before .list-at .ensures) (c .zero-from .ensures))
+returns-4 c =
+    let h = c .before .before .before .before .before .before .before .pre in
+    let s = c .before .before .before .before .before .before .before .args in
+    let list-at = c .before .before .before .before .list-at in
+    rw (equal (list-at .ensures) (ap (λ (n : ℕ). 1 + 6 * n) (h .1 .counted)) (c .before .before .before .if2 .left), le-leb (threes (s .b) (s .m .now) (s .o .descriptor .0)) mostThrees (omega (arith, h .1 .counted)), yes (list-pairs (s .b) (s .m .now) (s .o .descriptor .0) (h .1 .at-list) (h .1 .counted) (c .before .before .pairs-form .ensures)) (c .before .if3 .left))
+    (zero-as (s .b) (s .m .now) (h .1 .at-list) (list-at .ensures) (c .zero-from .ensures))
 
 pub list-test-spec : {M : Type 1} → statement M
 list-test-spec =

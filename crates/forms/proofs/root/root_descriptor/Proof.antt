@@ -33,11 +33,14 @@ root-descriptor-word-requires c κs = search needs
 
 returns : tie.Need-returns Inv-loop μ-loop
 returns c =
-    let b = c .before .before .before .before .before .before .args .b in
-    let m = c .before .before .before .before .before .before .args .m .now in
+    let s = c .before .before .before .before .before .before .args in
+    let h = c .before .before .before .before .before .before .pre in
+    let p = c .before .before .before .before .loop in
+    let b = s .b in
+    let m = s .m .now in
     let f : ℕ → Bool = λ j. eqb (word b m 1 j) (rootDescriptorWord b j) in
-    rest-stop f (λ j. eqb (word b m 1 j) 0) 10 (pageWords b) (omega (arith, words-least b (c .before .before .before .before .before .before .pre .0))) (λ j a l. ap (eqb (word b m 1 j)) (descriptor-zeros b j a))
-    (all-stop f 10 (c .before .before .before .before .loop .i) {x = false} (omega arith) (sym (unequal (c .before .before .read-word .ensures) (c .before .root-descriptor-word .ensures) (c .if1 .taken))) refl (c .before .before .before .before .loop .inv))
+    rest-stop f (λ j. eqb (word b m 1 j) 0) 10 (pageWords b) (omega (arith, words-least b (h .0))) (λ j a l. ap (eqb (word b m 1 j)) (descriptor-zeros b j a))
+    (all-stop f 10 (p .i) {x = false} (omega arith) (sym (unequal (c .before .before .read-word .ensures) (c .before .root-descriptor-word .ensures) (c .if1 .taken))) refl (p .inv))
 
 add-i : tie.Need-add-i Inv-loop μ-loop
 add-i c = search needs
@@ -47,20 +50,26 @@ loop-less c = search needs
 
 loop-again : tie.Need-loop-again Inv-loop μ-loop
 loop-again c =
-    let b = c .before .before .before .before .before .before .args .b in
-    let m = c .before .before .before .before .before .before .args .m .now in
-    all-go (λ j. eqb (word b m 1 j) (rootDescriptorWord b j)) 10 (c .before .before .before .before .loop .i) {x = true} (omega arith) (sym (equal (c .before .before .read-word .ensures) (c .before .root-descriptor-word .ensures) (c .if1 .left))) refl (c .before .before .before .before .loop .inv)
+    let s = c .before .before .before .before .before .before .args in
+    let p = c .before .before .before .before .loop in
+    let b = s .b in
+    let m = s .m .now in
+    all-go (λ j. eqb (word b m 1 j) (rootDescriptorWord b j)) 10 (p .i) {x = true} (omega arith)
+    (sym (equal (c .before .before .read-word .ensures) (c .before .root-descriptor-word .ensures) (c .if1 .left))) refl (p .inv)
 
 zero-from-requires : tie.Need-zero-from-requires Inv-loop μ-loop
 zero-from-requires c κs = search needs
 
 returns-2 : tie.Need-returns-2 Inv-loop μ-loop
 returns-2 c =
-    let b = c .before .before .before .before .args .b in
-    let m = c .before .before .before .before .args .m .now in
+    let s = c .before .before .before .before .args in
+    let p = c .before .before .loop in
+    let b = s .b in
+    let m = s .m .now in
     let f : ℕ → Bool = λ j. eqb (word b m 1 j) (rootDescriptorWord b j) in
-    rest-end f (λ j. eqb (word b m 1 j) 0) 10 (pageWords b) (omega (arith, words-least b (c .before .before .before .before .pre .0))) (λ j a l. ap (eqb (word b m 1 j)) (descriptor-zeros b j a))
-    (all-end f 10 (c .before .before .loop .i) (omega arith) (c .before .before .loop .inv)) (c .zero-from .ensures)
+    rest-end f (λ j. eqb (word b m 1 j) 0) 10 (pageWords b) (omega (arith, words-least b (c .before .before .before .before .pre .0)))
+    (λ j a l. ap (eqb (word b m 1 j)) (descriptor-zeros b j a))
+    (all-end f 10 (p .i) (omega arith) (p .inv)) (c .zero-from .ensures)
 
 pub root-descriptor-spec : {M : Type 1} → statement M
 root-descriptor-spec =

@@ -34,20 +34,27 @@ least-requires : tie.Need-least-requires Inv-loop μ-loop
 least-requires c κs = search needs
 
 loop-holds : tie.Need-loop-holds Inv-loop μ-loop
-loop-holds c = all-start (λ j. eqb (word (c .before .before .before .args .b) (c .before .before .before .args .m .now) 5 j) (rootListWord (c .before .before .before .args .b) (c .before .before .before .args .n) j)) (c .least .result) 0 refl refl
+loop-holds c =
+    let s = c .before .before .before .args in
+    all-start (λ j. eqb (word (s .b) (s .m .now) 5 j) (rootListWord (s .b) (s .n) j)) (c .least .result) 0 refl refl
 
 read-word-requires : tie.Need-read-word-requires Inv-loop μ-loop
 read-word-requires c κs = search needs
 
 root-list-word-requires : tie.Need-root-list-word-requires Inv-loop μ-loop
-root-list-word-requires c κs = (c .before .before .before .before .before .before .pre .0, (c .before .before .before .before .before .before .pre .1 .0, c .before .before .before .before .before .before .pre .1 .1, omega arith))
+root-list-word-requires c κs =
+    let h = c .before .before .before .before .before .before .pre in
+    (h .0, (h .1 .0, h .1 .1, omega arith))
 
 returns : tie.Need-returns Inv-loop μ-loop
 returns c =
+    let least = c .before .before .before .before .before .least in
+    let p = c .before .before .before .before .loop in
     let s = c .before .before .before .before .before .before .before .before .args in
     let f : ℕ → Bool = λ j. eqb (word (s .b) (s .m .now) 5 j) (rootListWord (s .b) (s .n) j) in
-    rest-stop f (λ j. eqb (word (s .b) (s .m .now) 5 j) 0) (c .before .before .before .before .before .least .result) (pageWords (s .b)) (omega arith) (λ j a l. ap (eqb (word (s .b) (s .m .now) 5 j)) (list-zeros (s .b) (s .n) j (omega arith)))
-    (all-stop f (c .before .before .before .before .before .least .result) (c .before .before .before .before .loop .i) {x = false} (omega arith) (sym (unequal (c .before .before .read-word .ensures) (c .before .root-list-word .ensures) (c .if1 .taken))) refl (c .before .before .before .before .loop .inv))
+    rest-stop f (λ j. eqb (word (s .b) (s .m .now) 5 j) 0) (least .result) (pageWords (s .b)) (omega arith)
+    (λ j a l. ap (eqb (word (s .b) (s .m .now) 5 j)) (list-zeros (s .b) (s .n) j (omega arith)))
+    (all-stop f (least .result) (p .i) {x = false} (omega arith) (sym (unequal (c .before .before .read-word .ensures) (c .before .root-list-word .ensures) (c .if1 .taken))) refl (p .inv))
 
 add-i : tie.Need-add-i Inv-loop μ-loop
 add-i c = search needs
@@ -57,18 +64,24 @@ loop-less c = search needs
 
 loop-again : tie.Need-loop-again Inv-loop μ-loop
 loop-again c =
+    let least = c .before .before .before .before .before .least in
+    let p = c .before .before .before .before .loop in
     let s = c .before .before .before .before .before .before .before .before .args in
-    all-go (λ j. eqb (word (s .b) (s .m .now) 5 j) (rootListWord (s .b) (s .n) j)) (c .before .before .before .before .before .least .result) (c .before .before .before .before .loop .i) {x = true} (omega arith) (sym (equal (c .before .before .read-word .ensures) (c .before .root-list-word .ensures) (c .if1 .left))) refl (c .before .before .before .before .loop .inv)
+    all-go (λ j. eqb (word (s .b) (s .m .now) 5 j) (rootListWord (s .b) (s .n) j)) (least .result) (p .i) {x = true} (omega arith)
+    (sym (equal (c .before .before .read-word .ensures) (c .before .root-list-word .ensures) (c .if1 .left))) refl (p .inv)
 
 zero-from-requires : tie.Need-zero-from-requires Inv-loop μ-loop
 zero-from-requires c κs = search needs
 
 returns-2 : tie.Need-returns-2 Inv-loop μ-loop
 returns-2 c =
+    let least = c .before .before .before .least in
+    let p = c .before .before .loop in
     let s = c .before .before .before .before .before .before .args in
     let f : ℕ → Bool = λ j. eqb (word (s .b) (s .m .now) 5 j) (rootListWord (s .b) (s .n) j) in
-    rest-end f (λ j. eqb (word (s .b) (s .m .now) 5 j) 0) (c .before .before .before .least .result) (pageWords (s .b)) (omega arith) (λ j a l. ap (eqb (word (s .b) (s .m .now) 5 j)) (list-zeros (s .b) (s .n) j (omega arith)))
-    (all-end f (c .before .before .before .least .result) (c .before .before .loop .i) (omega arith) (c .before .before .loop .inv)) (c .zero-from .ensures)
+    rest-end f (λ j. eqb (word (s .b) (s .m .now) 5 j) 0) (least .result) (pageWords (s .b)) (omega arith)
+    (λ j a l. ap (eqb (word (s .b) (s .m .now) 5 j)) (list-zeros (s .b) (s .n) j (omega arith)))
+    (all-end f (least .result) (p .i) (omega arith) (p .inv)) (c .zero-from .ensures)
 
 pub root-list-spec : {M : Type 1} → statement M
 root-list-spec =

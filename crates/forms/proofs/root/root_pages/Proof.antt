@@ -36,28 +36,49 @@ root-directory-requires c κs = search needs
 
 returns-2 : tie.Need-returns-2
 unfolding formatWord from all
-returns-2 c = rw (yes (c .before .before .before .root-descriptor .ensures) (c .before .before .if1 .left), no (c .before .root-directory .ensures ∙ directory-of (c .before .before .before .before .before .before .before .args .b) (c .before .before .before .before .before .before .before .args .m .now) 0 (c .before .before .before .before .before .pages .ensures)) (c .if2 .taken))
+returns-2 c =
+    let s = c .before .before .before .before .before .before .before .args in
+    let pages = c .before .before .before .before .before .pages in
+    rw (yes (c .before .before .before .root-descriptor .ensures) (c .before .before .if1 .left), no (c .before .root-directory .ensures ∙ directory-of (s .b) (s .m .now) 0 (pages .ensures)) (c .if2 .taken))
 
 root-directory-requires-2 : tie.Need-root-directory-requires-2
 root-directory-requires-2 c κs = search needs
 
 returns-3 : tie.Need-returns-3
 unfolding formatWord from all
-returns-3 c = rw (yes (c .before .before .before .before .before .root-descriptor .ensures) (c .before .before .before .before .if1 .left), yes (c .before .before .before .root-directory .ensures ∙ directory-of (c .before .before .before .before .before .before .before .before .before .args .b) (c .before .before .before .before .before .before .before .before .before .args .m .now) 0 (c .before .before .before .before .before .before .before .pages .ensures)) (c .before .before .if2 .left), no (c .before .root-directory2 .ensures ∙ directory-of (c .before .before .before .before .before .before .before .before .before .args .b) (c .before .before .before .before .before .before .before .before .before .args .m .now) 1 (c .before .before .before .before .before .before .before .pages .ensures)) (c .if3 .taken))
+returns-3 c =
+    let s = c .before .before .before .before .before .before .before .before .before .args in
+    let pages = c .before .before .before .before .before .before .before .pages in
+    let root-descriptor = c .before .before .before .before .before .root-descriptor in
+    rw (yes (root-descriptor .ensures) (c .before .before .before .before .if1 .left), yes (c .before .before .before .root-directory .ensures ∙ directory-of (s .b) (s .m .now) 0 (pages .ensures)) (c .before .before .if2 .left), no (c .before .root-directory2 .ensures ∙ directory-of (s .b) (s .m .now) 1 (pages .ensures)) (c .if3 .taken))
 
 root-directory-requires-3 : tie.Need-root-directory-requires-3
 root-directory-requires-3 c κs = search needs
 
 returns-4 : tie.Need-returns-4
 unfolding formatWord from all
-returns-4 c = rw (yes (c .before .before .before .before .before .before .before .root-descriptor .ensures) (c .before .before .before .before .before .before .if1 .left), yes (c .before .before .before .before .before .root-directory .ensures ∙ directory-of (c .before .before .before .before .before .before .before .before .before .before .before .args .b) (c .before .before .before .before .before .before .before .before .before .before .before .args .m .now) 0 (c .before .before .before .before .before .before .before .before .before .pages .ensures)) (c .before .before .before .before .if2 .left), yes (c .before .before .before .root-directory2 .ensures ∙ directory-of (c .before .before .before .before .before .before .before .before .before .before .before .args .b) (c .before .before .before .before .before .before .before .before .before .before .before .args .m .now) 1 (c .before .before .before .before .before .before .before .before .before .pages .ensures)) (c .before .before .if3 .left), no (c .before .root-directory3 .ensures ∙ directory-of (c .before .before .before .before .before .before .before .before .before .before .before .args .b) (c .before .before .before .before .before .before .before .before .before .before .before .args .m .now) 2 (c .before .before .before .before .before .before .before .before .before .pages .ensures)) (c .if4 .taken))
+returns-4 c =
+    let s = c .before .before .before .before .before .before .before .before .before .before .before .args in
+    let pages = c .before .before .before .before .before .before .before .before .before .pages in
+    let root-descriptor = c .before .before .before .before .before .before .before .root-descriptor in
+    let first = c .before .before .before .before .before .before .if1 in
+    let root-directory = c .before .before .before .before .before .root-directory in
+    rw (yes (root-descriptor .ensures) (first .left), yes (root-directory .ensures ∙ directory-of (s .b) (s .m .now) 0 (pages .ensures)) (c .before .before .before .before .if2 .left), yes (c .before .before .before .root-directory2 .ensures ∙ directory-of (s .b) (s .m .now) 1 (pages .ensures)) (c .before .before .if3 .left), no (c .before .root-directory3 .ensures ∙ directory-of (s .b) (s .m .now) 2 (pages .ensures)) (c .if4 .taken))
 
 root-list-requires : tie.Need-root-list-requires
 root-list-requires c κs = search needs
 
 returns-5 : tie.Need-returns-5
 unfolding formatWord from all
-returns-5 c = rw (yes (c .before .before .before .before .before .before .before .before .root-descriptor .ensures) (c .before .before .before .before .before .before .before .if1 .left), yes (c .before .before .before .before .before .before .root-directory .ensures ∙ directory-of (c .before .before .before .before .before .before .before .before .before .before .before .before .args .b) (c .before .before .before .before .before .before .before .before .before .before .before .before .args .m .now) 0 (c .before .before .before .before .before .before .before .before .before .before .pages .ensures)) (c .before .before .before .before .before .if2 .left), yes (c .before .before .before .before .root-directory2 .ensures ∙ directory-of (c .before .before .before .before .before .before .before .before .before .before .before .before .args .b) (c .before .before .before .before .before .before .before .before .before .before .before .before .args .m .now) 1 (c .before .before .before .before .before .before .before .before .before .before .pages .ensures)) (c .before .before .before .if3 .left), yes (c .before .before .root-directory3 .ensures ∙ directory-of (c .before .before .before .before .before .before .before .before .before .before .before .before .args .b) (c .before .before .before .before .before .before .before .before .before .before .before .before .args .m .now) 2 (c .before .before .before .before .before .before .before .before .before .before .pages .ensures)) (c .before .if4 .left)) (c .root-list .ensures ∙ ap (λ (x : ℕ). all (λ i. eqb (word (c .before .before .before .before .before .before .before .before .before .before .before .before .args .b) (c .before .before .before .before .before .before .before .before .before .before .before .before .args .m .now) 5 i) (rootListWord (c .before .before .before .before .before .before .before .before .before .before .before .before .args .b) x i)) (from (pageWords (c .before .before .before .before .before .before .before .before .before .before .before .before .args .b)) 0)) (c .before .before .before .before .before .before .before .before .before .before .pages .ensures) ∙ sym (and-true _))
+returns-5 c =
+    let s = c .before .before .before .before .before .before .before .before .before .before .before .before .args in
+    let pages = c .before .before .before .before .before .before .before .before .before .before .pages in
+    let root-descriptor = c .before .before .before .before .before .before .before .before .root-descriptor in
+    let first = c .before .before .before .before .before .before .before .if1 in
+    let root-directory = c .before .before .before .before .before .before .root-directory in
+    let second = c .before .before .before .before .before .if2 in
+    rw (yes (root-descriptor .ensures) (first .left), yes (root-directory .ensures ∙ directory-of (s .b) (s .m .now) 0 (pages .ensures)) (second .left), yes (c .before .before .before .before .root-directory2 .ensures ∙ directory-of (s .b) (s .m .now) 1 (pages .ensures)) (c .before .before .before .if3 .left), yes (c .before .before .root-directory3 .ensures ∙ directory-of (s .b) (s .m .now) 2 (pages .ensures)) (c .before .if4 .left))
+    (c .root-list .ensures ∙ ap (λ (x : ℕ). all (λ i. eqb (word (s .b) (s .m .now) 5 i) (rootListWord (s .b) x i)) (from (pageWords (s .b)) 0)) (pages .ensures) ∙ sym (and-true _))
 
 pub root-pages-spec : {M : Type 1} → statement M
 root-pages-spec =

@@ -17,7 +17,9 @@ read-requires : tie.Need-read-requires
 read-requires c κs = search needs
 
 returns : tie.Need-returns
-returns c = word-by-index (c .before .before .before .before .args .b) (c .before .before .before .before .args .m .now) (c .before .before .before .before .args .i) (c .read .ensures) (c .before .index .ensures .0) (c .before .before .list .ensures)
+returns c =
+    let s = c .before .before .before .before .args in
+    word-by-index (s .b) (s .m .now) (s .i) (c .read .ensures) (c .before .index .ensures .0) (c .before .before .list .ensures)
 
 pub list-word-spec : {M : Type 1} → statement M
 list-word-spec = tie.close (tie.spec list-requires index-requires add-read read-requires returns)

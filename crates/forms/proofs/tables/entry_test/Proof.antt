@@ -21,9 +21,11 @@ entry-of-requires c κs = search needs
 returns : tie.Need-returns
 unfolding entryTest
 returns c =
-    let b = c .before .before .before .before .before .args .b in
-    let w = c .before .before .before .before .before .args .w in
-    let e : c .before .entry-of .result ≡ entry b (pageOf b w) (accessible w) (rights w) = c .before .entry-of .ensures ∙ ap (λ (x : ℕ). entry b (pageOf b w) x (c .before .before .rights .result)) (c .before .before .before .accessible .ensures) ∙ ap (entry b (pageOf b w) (accessible w)) (c .before .before .rights .ensures) in
+    let s = c .before .before .before .before .before .args in
+    let the-rights = c .before .before .rights in
+    let b = s .b in
+    let w = s .w in
+    let e : c .before .entry-of .result ≡ entry b (pageOf b w) (accessible w) (rights w) = c .before .entry-of .ensures ∙ ap (λ (x : ℕ). entry b (pageOf b w) x (the-rights .result)) (c .before .before .before .accessible .ensures) ∙ ap (entry b (pageOf b w) (accessible w)) (the-rights .ensures) in
     rw (unequal e refl (c .if1 .taken))
 
 in-memory-requires : tie.Need-in-memory-requires
@@ -32,9 +34,12 @@ in-memory-requires c κs = search needs
 returns-2 : tie.Need-returns-2
 unfolding entryTest
 returns-2 c =
-    let b = c .before .before .before .before .before .before .args .b in
-    let w = c .before .before .before .before .before .before .args .w in
-    let e : c .before .before .entry-of .result ≡ entry b (pageOf b w) (accessible w) (rights w) = c .before .before .entry-of .ensures ∙ ap (λ (x : ℕ). entry b (pageOf b w) x (c .before .before .before .rights .result)) (c .before .before .before .before .accessible .ensures) ∙ ap (entry b (pageOf b w) (accessible w)) (c .before .before .before .rights .ensures) in
+    let s = c .before .before .before .before .before .before .args in
+    let the-rights = c .before .before .before .rights in
+    let entry-of = c .before .before .entry-of in
+    let b = s .b in
+    let w = s .w in
+    let e : entry-of .result ≡ entry b (pageOf b w) (accessible w) (rights w) = entry-of .ensures ∙ ap (λ (x : ℕ). entry b (pageOf b w) x (the-rights .result)) (c .before .before .before .before .accessible .ensures) ∙ ap (entry b (pageOf b w) (accessible w)) (the-rights .ensures) in
     rw (equal e refl (c .before .if1 .left)) (c .in-memory .ensures)
 
 pub entry-test-spec : {M : Type 1} → statement M

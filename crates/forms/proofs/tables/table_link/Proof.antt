@@ -26,7 +26,8 @@ in-memory-requires c κs = search needs
 
 returns-3 : tie.Need-returns-3
 unfolding tableLink
-returns-3 c = rw (unequal refl refl (c .before .before .before .if1 .left), equal (ap (λ (x : ℕ). x + 1) (c .before .before .frame .ensures .0)) refl (c .before .if2 .left)) (c .in-memory .ensures)
+returns-3 c = rw (unequal refl refl (c .before .before .before .if1 .left), equal (ap (λ (x : ℕ). x + 1) (c .before .before .frame .ensures .0)) refl (c .before .if2 .left))
+    (c .in-memory .ensures)
 
 pub table-link-spec : {M : Type 1} → statement M
 table-link-spec =

@@ -25,23 +25,29 @@ table-link-requires : tie.Need-table-link-requires
 table-link-requires c κs = search needs
 
 returns-5 : tie.Need-returns-5
-returns-5 c = let s = c .before .before .before .before .before .before .before .before .before .args in rw (links-some (s .b) (s .m .now) (s .t .0) (s .t .1) (s .t .2) (c .before .before .before .before .before .before .if1 .left), no (c .before .table-link .ensures) (c .if5 .taken))
+returns-5 c =
+    let first = c .before .before .before .before .before .before .if1 in
+    let s = c .before .before .before .before .before .before .before .before .before .args in rw (links-some (s .b) (s .m .now) (s .t .0) (s .t .1) (s .t .2) (first .left), no (c .before .table-link .ensures) (c .if5 .taken))
 
 table-link-requires-2 : tie.Need-table-link-requires-2
 table-link-requires-2 c κs = search needs
 
 returns-6 : tie.Need-returns-6
 returns-6 c =
+    let first = c .before .before .before .before .before .before .before .before .if1 in
     let s = c .before .before .before .before .before .before .before .before .before .before .before .args in
-    rw (links-some (s .b) (s .m .now) (s .t .0) (s .t .1) (s .t .2) (c .before .before .before .before .before .before .before .before .if1 .left), yes (c .before .before .before .table-link .ensures) (c .before .before .if5 .left), no (c .before .table-link2 .ensures) (c .if6 .taken))
+    rw (links-some (s .b) (s .m .now) (s .t .0) (s .t .1) (s .t .2) (first .left), yes (c .before .before .before .table-link .ensures) (c .before .before .if5 .left), no (c .before .table-link2 .ensures) (c .if6 .taken))
 
 table-link-requires-3 : tie.Need-table-link-requires-3
 table-link-requires-3 c κs = search needs
 
 returns-7 : tie.Need-returns-7
 returns-7 c =
+    let first = c .before .before .before .before .before .before .before .before .before .if1 in
+    let third = c .before .before .before .before .before .before .before .if3 in
+    let fourth = c .before .before .before .before .before .if4 in
     let s = c .before .before .before .before .before .before .before .before .before .before .before .before .args in
-    rw (links-some (s .b) (s .m .now) (s .t .0) (s .t .1) (s .t .2) (c .before .before .before .before .before .before .before .before .before .if1 .left), ne-eqb (s .t .1) 0 (c .before .before .before .before .before .before .before .if3 .left), ne-eqb (s .t .2) 0 (c .before .before .before .before .before .if4 .left), yes (c .before .before .before .before .table-link .ensures) (c .before .before .before .if5 .left), yes (c .before .before .table-link2 .ensures) (c .before .if6 .left))
+    rw (links-some (s .b) (s .m .now) (s .t .0) (s .t .1) (s .t .2) (first .left), ne-eqb (s .t .1) 0 (third .left), ne-eqb (s .t .2) 0 (fourth .left), yes (c .before .before .before .before .table-link .ensures) (c .before .before .before .if5 .left), yes (c .before .before .table-link2 .ensures) (c .before .if6 .left))
     (c .table-link3 .ensures ∙ sym (and-true _))
 
 pub three-links-spec : {M : Type 1} → statement M

@@ -24,7 +24,9 @@ loop-holds : tie.Need-loop-holds Inv-loop μ-loop
 loop-holds c = let s = c .before .args in (omega arith, omega arith, found-start (listedAs (s .b) (s .m .now) (s .o .descriptor .0) (s .t .0) (s .t .1) (s .t .2)) (s .o .threes) 0 refl)
 
 three-of-requires : tie.Need-three-of-requires Inv-loop μ-loop
-three-of-requires c κs = (c .before .before .before .pre .0, (c .before .before .before .pre .1, omega (arith, c .before .before .before .pre .1 .named .counted)))
+three-of-requires c κs =
+    let h = c .before .before .before .pre in
+    (h .0, (h .1, omega (arith, h .1 .named .counted)))
 
 same-requires : tie.Need-same-requires Inv-loop μ-loop
 same-requires c κs = search needs
@@ -55,7 +57,8 @@ returns : tie.Need-returns Inv-loop μ-loop
 returns c =
     let s = c .before .before .before .args in
     let f = listedAs (s .b) (s .m .now) (s .o .descriptor .0) (s .t .0) (s .t .1) (s .t .2) in
-    found-all f (s .o .threes) (c .before .loop .j) (c .before .loop .found) (omega arith) (c .before .loop .inv .2) ∙ ap (λ (n : ℕ). once f (from n 0)) (c .before .before .before .pre .1 .named .counted)
+    found-all f (s .o .threes) (c .before .loop .j) (c .before .loop .found) (omega arith) (c .before .loop .inv .2) ∙ ap (λ (n : ℕ). once f (from n 0))
+    (c .before .before .before .pre .1 .named .counted)
 
 pub listed-once-spec : {M : Type 1} → statement M
 listed-once-spec =

@@ -27,7 +27,9 @@ loop-holds : tie.Need-loop-holds Inv-loop μ-loop
 loop-holds c = let s = c .before .before .args in (omega arith, omega arith, found-start (alike (s .b) (s .m .now) (s .o .descriptor .0) (s .t .0) (s .t .1) (s .t .2)) (c .page-words .result) 0 refl)
 
 words-at-requires : tie.Need-words-at-requires Inv-loop μ-loop
-words-at-requires c κs = (c .before .before .before .before .pre .0, (c .before .before .before .before .pre .1, omega arith))
+words-at-requires c κs =
+    let h = c .before .before .before .before .pre in
+    (h .0, (h .1, omega arith))
 
 same-requires : tie.Need-same-requires Inv-loop μ-loop
 same-requires c κs = search needs
@@ -46,18 +48,21 @@ loop-less c = search needs
 
 loop-again : tie.Need-loop-again Inv-loop μ-loop
 loop-again c =
+    let page-words = c .before .before .before .before .before .page-words in
     let s = c .before .before .before .before .before .before .before .args in
     let p = c .before .before .before .before .loop in
     let f = alike (s .b) (s .m .now) (s .o .descriptor .0) (s .t .0) (s .t .1) (s .t .2) in
     let q : c .before .same .result ≡ f (p .i) = c .before .same .ensures ∙ alike-as (s .b) (s .m .now) (s .o .descriptor .0) (p .i) (c .before .before .words-at .ensures) (s .t .0) (s .t .1) (s .t .2) in
     let e : c .bit .result ≡ cond (f (p .i)) 1 0 = c .bit .ensures ∙ ap (λ (x : Bool). cond x 1 0) q in
-    (omega (arith, bit-le (f (p .i))), omega arith, found-more f (c .before .before .before .before .before .page-words .result) (p .i) (p .found) (omega arith) e (p .inv .2))
+    (omega (arith, bit-le (f (p .i))), omega arith, found-more f (page-words .result) (p .i) (p .found) (omega arith) e (p .inv .2))
 
 returns : tie.Need-returns Inv-loop μ-loop
 returns c =
+    let page-words = c .before .before .page-words in
     let s = c .before .before .before .before .args in
     let f = alike (s .b) (s .m .now) (s .o .descriptor .0) (s .t .0) (s .t .1) (s .t .2) in
-    found-count f (c .before .before .page-words .result) (c .before .loop .i) (c .before .loop .found) (omega arith) (c .before .loop .inv .2) ∙ ap (λ (n : ℕ). length (keep f (from n 0))) (c .before .before .page-words .ensures .0)
+    found-count f (page-words .result) (c .before .loop .i) (c .before .loop .found) (omega arith) (c .before .loop .inv .2) ∙ ap (λ (n : ℕ). length (keep f (from n 0)))
+    (page-words .ensures .0)
 
 pub standing-spec : {M : Type 1} → statement M
 standing-spec =

@@ -19,22 +19,32 @@ add-list-at-2 : tie.Need-add-list-at-2
 add-list-at-2 c = search needs
 
 list-at-requires-2 : tie.Need-list-at-requires-2
-list-at-requires-2 c κs = (c .before .before .pre .0, (c .before .before .pre .1 .0 .named, omega arith))
+list-at-requires-2 c κs =
+    let h = c .before .before .pre in
+    (h .0, (h .1 .0 .named, omega arith))
 
 add-list-at-3 : tie.Need-add-list-at-3
 add-list-at-3 c = search needs
 
 list-at-requires-3 : tie.Need-list-at-requires-3
-list-at-requires-3 c κs = (c .before .before .before .pre .0, (c .before .before .before .pre .1 .0 .named, omega arith))
+list-at-requires-3 c κs =
+    let h = c .before .before .before .pre in
+    (h .0, (h .1 .0 .named, omega arith))
 
 add-t10 : tie.Need-add-t10
-add-t10 c = omega (arith, listed-room (c .before .before .before .before .args .b) (c .before .before .before .before .args .m .now) (c .before .before .before .before .args .o .descriptor .0) (c .before .before .before .before .pre .1 .0 .passed) (3 * c .before .before .before .before .args .j) (2 + 6 * c .before .before .before .before .args .j) (omega arith) (omega arith) (c .before .before .list-at .ensures) (omega arith))
+add-t10 c =
+    let s = c .before .before .before .before .args in
+    omega (arith, listed-room (s .b) (s .m .now) (s .o .descriptor .0) (c .before .before .before .before .pre .1 .0 .passed) (3 * s .j) (2 + 6 * s .j) (omega arith) (omega arith) (c .before .before .list-at .ensures) (omega arith))
 
 add-t11 : tie.Need-add-t11
-add-t11 c = omega (arith, listed-room (c .before .before .before .before .args .b) (c .before .before .before .before .args .m .now) (c .before .before .before .before .args .o .descriptor .0) (c .before .before .before .before .pre .1 .0 .passed) (3 * c .before .before .before .before .args .j + 1) (4 + 6 * c .before .before .before .before .args .j) (omega arith) (omega arith) (c .before .list-at2 .ensures) (omega arith))
+add-t11 c =
+    let s = c .before .before .before .before .args in
+    omega (arith, listed-room (s .b) (s .m .now) (s .o .descriptor .0) (c .before .before .before .before .pre .1 .0 .passed) (3 * s .j + 1) (4 + 6 * s .j) (omega arith) (omega arith) (c .before .list-at2 .ensures) (omega arith))
 
 add-t12 : tie.Need-add-t12
-add-t12 c = omega (arith, listed-room (c .before .before .before .before .args .b) (c .before .before .before .before .args .m .now) (c .before .before .before .before .args .o .descriptor .0) (c .before .before .before .before .pre .1 .0 .passed) (3 * c .before .before .before .before .args .j + 2) (6 + 6 * c .before .before .before .before .args .j) (omega arith) (omega arith) (c .list-at3 .ensures) (omega arith))
+add-t12 c =
+    let s = c .before .before .before .before .args in
+    omega (arith, listed-room (s .b) (s .m .now) (s .o .descriptor .0) (c .before .before .before .before .pre .1 .0 .passed) (3 * s .j + 2) (6 + 6 * s .j) (omega arith) (omega arith) (c .list-at3 .ensures) (omega arith))
 
 returns : tie.Need-returns
 returns c = search needs

@@ -20,20 +20,28 @@ abbrev μ-loop : tie.MeasureT-loop
 μ-loop b m o n j₀ j = n - j
 
 loop-holds : tie.Need-loop-holds Inv-loop μ-loop
-loop-holds c = all-start (λ k. once (stands (c .before .args .b) (c .before .args .m .now) (c .before .args .o .descriptor .0) k) (from (pageWords (c .before .args .b)) 0)) (c .before .args .o .threes) 0 refl refl
+loop-holds c = all-start (λ k. once (stands (c .before .args .b) (c .before .args .m .now) (c .before .args .o .descriptor .0) k) (from (pageWords (c .before .args .b)) 0))
+    (c .before .args .o .threes) 0 refl refl
 
 three-of-requires : tie.Need-three-of-requires Inv-loop μ-loop
-three-of-requires c κs = (c .before .before .before .pre .0, (c .before .before .before .pre .1, omega (arith, c .before .before .before .pre .1 .named .counted)))
+three-of-requires c κs =
+    let h = c .before .before .before .pre in
+    (h .0, (h .1, omega (arith, h .1 .named .counted)))
 
 standing-requires : tie.Need-standing-requires Inv-loop μ-loop
-standing-requires c κs = (c .before .before .before .before .pre .0, c .before .before .before .before .pre .1 .named)
+standing-requires c κs =
+    let h = c .before .before .before .before .pre in
+    (h .0, h .1 .named)
 
 returns : tie.Need-returns Inv-loop μ-loop
 returns c =
-    let f : ℕ → Bool = λ k. once (stands (c .before .before .before .before .before .before .args .b) (c .before .before .before .before .before .before .args .m .now) (c .before .before .before .before .before .before .args .o .descriptor .0) k) (from (pageWords (c .before .before .before .before .before .before .args .b)) 0) in
+    let s = c .before .before .before .before .before .before .args in
+    let h = c .before .before .before .before .before .before .pre in
+    let p = c .before .before .before .before .loop in
+    let f : ℕ → Bool = λ k. once (stands (s .b) (s .m .now) (s .o .descriptor .0) k) (from (pageWords (s .b)) 0) in
     let t = c .before .before .three-of .ensures in
-    let e : f (c .before .before .before .before .loop .j) ≡ false = sym (three-as (c .before .before .before .before .before .before .args .b) (c .before .before .before .before .before .before .args .m .now) (c .before .before .before .before .before .before .args .o .descriptor .0) (c .before .before .before .before .loop .j) (t .0) (t .1) (t .2) (c .before .standing .ensures)) ∙ ne-eqb (c .before .standing .result) 1 (c .if1 .taken) in
-    all-stop f (c .before .before .before .before .before .before .args .o .threes) (c .before .before .before .before .loop .j) {x = false} (omega arith) (sym e) refl (c .before .before .before .before .loop .inv) ∙ ap (λ (x : ℕ). all f (from x 0)) (c .before .before .before .before .before .before .pre .1 .named .counted)
+    let e : f (p .j) ≡ false = sym (three-as (s .b) (s .m .now) (s .o .descriptor .0) (p .j) (t .0) (t .1) (t .2) (c .before .standing .ensures)) ∙ ne-eqb (c .before .standing .result) 1 (c .if1 .taken) in
+    all-stop f (s .o .threes) (p .j) {x = false} (omega arith) (sym e) refl (p .inv) ∙ ap (λ (x : ℕ). all f (from x 0)) (h .1 .named .counted)
 
 add-j : tie.Need-add-j Inv-loop μ-loop
 add-j c = search needs
@@ -43,15 +51,19 @@ loop-less c = search needs
 
 loop-again : tie.Need-loop-again Inv-loop μ-loop
 loop-again c =
-    let f : ℕ → Bool = λ k. once (stands (c .before .before .before .before .before .before .args .b) (c .before .before .before .before .before .before .args .m .now) (c .before .before .before .before .before .before .args .o .descriptor .0) k) (from (pageWords (c .before .before .before .before .before .before .args .b)) 0) in
+    let s = c .before .before .before .before .before .before .args in
+    let p = c .before .before .before .before .loop in
+    let f : ℕ → Bool = λ k. once (stands (s .b) (s .m .now) (s .o .descriptor .0) k) (from (pageWords (s .b)) 0) in
     let t = c .before .before .three-of .ensures in
-    let e : f (c .before .before .before .before .loop .j) ≡ true = sym (three-as (c .before .before .before .before .before .before .args .b) (c .before .before .before .before .before .before .args .m .now) (c .before .before .before .before .before .before .args .o .descriptor .0) (c .before .before .before .before .loop .j) (t .0) (t .1) (t .2) (c .before .standing .ensures)) ∙ eq-eqb (c .before .standing .result) 1 (c .if1 .left) in
-    all-go f (c .before .before .before .before .before .before .args .o .threes) (c .before .before .before .before .loop .j) {x = true} (omega arith) (sym e) refl (c .before .before .before .before .loop .inv)
+    let e : f (p .j) ≡ true = sym (three-as (s .b) (s .m .now) (s .o .descriptor .0) (p .j) (t .0) (t .1) (t .2) (c .before .standing .ensures)) ∙ eq-eqb (c .before .standing .result) 1 (c .if1 .left) in
+    all-go f (s .o .threes) (p .j) {x = true} (omega arith) (sym e) refl (p .inv)
 
 returns-2 : tie.Need-returns-2 Inv-loop μ-loop
 returns-2 c =
-    let f : ℕ → Bool = λ k. once (stands (c .before .before .before .args .b) (c .before .before .before .args .m .now) (c .before .before .before .args .o .descriptor .0) k) (from (pageWords (c .before .before .before .args .b)) 0) in
-    all-end f (c .before .before .before .args .o .threes) (c .before .loop .j) (omega arith) (c .before .loop .inv) ∙ ap (λ (x : ℕ). all f (from x 0)) (c .before .before .before .pre .1 .named .counted)
+    let s = c .before .before .before .args in
+    let f : ℕ → Bool = λ k. once (stands (s .b) (s .m .now) (s .o .descriptor .0) k) (from (pageWords (s .b)) 0) in
+    all-end f (s .o .threes) (c .before .loop .j) (omega arith) (c .before .loop .inv) ∙ ap (λ (x : ℕ). all f (from x 0))
+    (c .before .before .before .pre .1 .named .counted)
 
 pub threes-once-spec : {M : Type 1} → statement M
 threes-once-spec =

@@ -17,7 +17,10 @@ zeros-requires : tie.Need-zeros-requires
 zeros-requires c κs = search needs
 
 returns : tie.Need-returns
-returns c = page-rest (c .before .before .before .before .before .args .b) (c .before .before .before .before .before .args .m .now) (c .before .before .before .before .before .args .p .0) (c .before .before .before .before .before .args .k) (c .before .before .before .index .ensures .0) (c .before .index2 .ensures .0) (c .before .before .page-words .ensures .0) (c .zeros .ensures)
+returns c =
+    let s = c .before .before .before .before .before .args in
+    page-rest (s .b) (s .m .now) (s .p .0) (s .k) (c .before .before .before .index .ensures .0) (c .before .index2 .ensures .0)
+    (c .before .before .page-words .ensures .0) (c .zeros .ensures)
 
 pub zero-from-spec : {M : Type 1} → statement M
 zero-from-spec =

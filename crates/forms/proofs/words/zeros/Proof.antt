@@ -36,10 +36,16 @@ loop-less : tie.Need-loop-less Inv-loop μ-loop
 loop-less c = search needs
 
 loop-again : tie.Need-loop-again Inv-loop μ-loop
-loop-again c = join-more (λ k. eqb (getD (c .before .before .before .before .before .args .m .now) k 0) 0) (c .before .before .before .before .before .args .e) (c .before .before .loop .i) (c .before .before .loop .joined) (getD (c .before .before .before .before .before .args .m .now) (c .before .before .loop .i) 0) (omega arith) refl (c .before .before .loop .inv)
+loop-again c =
+    let s = c .before .before .before .before .before .args in
+    let p = c .before .before .loop in
+    join-more (λ k. eqb (getD (s .m .now) k 0) 0) (s .e) (p .i) (p .joined) (getD (s .m .now) (p .i) 0) (omega arith) refl (p .inv)
 
 returns : tie.Need-returns Inv-loop μ-loop
-returns c = join-end (λ k. eqb (getD (c .before .before .before .before .args .m .now) k 0) 0) (c .before .before .before .before .args .e) (c .before .loop .i) (c .before .loop .joined) (past-end (c .before .before .before .before .args .m .now) (c .before .before .before .before .args .e) (c .before .loop .i) (omega arith)) (c .before .loop .inv)
+returns c =
+    let s = c .before .before .before .before .args in
+    join-end (λ k. eqb (getD (s .m .now) k 0) 0) (s .e) (c .before .loop .i) (c .before .loop .joined) (past-end (s .m .now) (s .e) (c .before .loop .i) (omega arith))
+    (c .before .loop .inv)
 
 pub zeros-spec : {M : Type 1} → statement M
 zeros-spec =

@@ -36,8 +36,11 @@ cast-end c = search needs
 
 loop-holds : tie.Need-loop-holds Inv-loop μ-loop
 loop-holds c =
-    let s = c .before .before .before .before .before .before .before .args in
-    (run-start (asking (λ k. cellWords (s .b) (s .m .now) (s .d .0) (address (s .b) (s .v .0 + k)) (getD (s .pt .now) k 0) (getD (s .s1 .now) k 0) (getD (s .s2 .now) k 0))) (pageWords (s .b)) true, refl)
+    let s = c .before .before .before .before .before .before .before .args in (
+      run-start (asking (λ k. cellWords (s .b) (s .m .now) (s .d .0) (address (s .b) (s .v .0 + k)) (getD (s .pt .now) k 0) (getD (s .s1 .now) k 0) (getD (s .s2 .now) k 0)))
+          (pageWords (s .b)) true,
+      refl,
+    )
 
 empty-cells-requires : tie.Need-empty-cells-requires Inv-loop μ-loop
 empty-cells-requires c κs = search needs
@@ -50,12 +53,14 @@ loop-less c = search needs
 
 loop-again : tie.Need-loop-again Inv-loop μ-loop
 loop-again c =
+    let least = c .before .before .before .before .before .before .least in
+    let least2 = c .before .before .before .before .before .least2 in
     let s = c .before .before .before .before .before .before .before .before .before .before .before .args in
     let p = c .before .before .before .loop in
-    let e = c .before .before .before .before .before .least2 .ensures in
-    let f = c .before .before .before .before .before .before .least .ensures in (
+    let e = least2 .ensures in
+    let f = least .ensures in (
       p .inv .0
-          ∙ cells-past (s .b) (s .m .now) (s .d .0) (s .v .0) (s .pt .now) (s .s1 .now) (s .s2 .now) (pageWords (s .b)) (c .before .before .before .before .before .least2 .result) (p .j)
+          ∙ cells-past (s .b) (s .m .now) (s .d .0) (s .v .0) (s .pt .now) (s .s1 .now) (s .s2 .now) (pageWords (s .b)) (least2 .result) (p .j)
           (omega (arith, e, f)) (omega (arith, e, f)) (omega (arith, e, f)) (c .before .empty-cells .ensures) (c .if1 .taken),
       p .inv .1,
     )
@@ -67,17 +72,27 @@ cast-t22 : tie.Need-cast-t22 Inv-loop μ-loop
 cast-t22 c = search needs
 
 add-t23 : tie.Need-add-t23 Inv-loop μ-loop
-add-t23 c = omega (arith, c .before .before .before .before .before .before .before .before .before .before .before .before .before .pre .1 .0, most-pages (c .before .before .before .before .before .before .before .before .before .before .before .before .before .args .b) (c .before .before .before .before .before .before .before .before .before .before .before .before .before .pre .0 .1), c .before .before .before .before .before .before .page-words .ensures .0)
+add-t23 c =
+    let h = c .before .before .before .before .before .before .before .before .before .before .before .before .before .pre in
+    let s = c .before .before .before .before .before .before .before .before .before .before .before .before .before .args in
+    let page-words = c .before .before .before .before .before .before .page-words in
+    omega (arith, h .1 .0, most-pages (s .b) (h .0 .1), page-words .ensures .0)
 
 cell-requires : tie.Need-cell-requires Inv-loop μ-loop
-cell-requires c κs = (c .before .before .before .before .before .before .before .before .before .before .before .before .before .pre .0, (omega (arith, c .before .before .before .before .before .before .before .before .before .before .before .before .before .pre .1 .0, c .before .before .before .before .before .before .page-words .ensures .0), (c .before .before .before .before .before .before .before .before .before .before .before .before .before .pre .1 .1, c .before .before .before .before .before .loop .inv .1)))
+cell-requires c κs =
+    let h = c .before .before .before .before .before .before .before .before .before .before .before .before .before .pre in
+    let page-words = c .before .before .before .before .before .before .page-words in
+    let p = c .before .before .before .before .before .loop in
+    (h .0, (omega (arith, h .1 .0, page-words .ensures .0), (h .1 .1, p .inv .1)))
 
 returns : tie.Need-returns Inv-loop μ-loop
 returns c =
+    let page-words = c .before .before .before .before .before .before .before .before .page-words in
     let s = c .before .before .before .before .before .before .before .before .before .before .before .before .before .before .before .args in
     let p = c .before .before .before .before .before .before .before .loop in
     let r = c .before .before .before .words-at .ensures in
-    ask-stop (λ k. cellWords (s .b) (s .m .now) (s .d .0) (address (s .b) (s .v .0 + k)) (getD (s .pt .now) k 0) (getD (s .s1 .now) k 0) (getD (s .s2 .now) k 0)) (pageWords (s .b)) (p .j) (omega (arith, c .before .before .before .before .before .before .before .before .page-words .ensures .0))
+    ask-stop (λ k. cellWords (s .b) (s .m .now) (s .d .0) (address (s .b) (s .v .0 + k)) (getD (s .pt .now) k 0) (getD (s .s1 .now) k 0) (getD (s .s2 .now) k 0))
+    (pageWords (s .b)) (p .j) (omega (arith, page-words .ensures .0))
     (c .before .cell .ensures ∙ cell-words (s .b) (s .m .now) (s .d .0) (address (s .b) (s .v .0 + p .j)) (r .0) (r .1) (r .2)) (c .if2 .taken) (p .inv .0)
 
 last-lent-requires : tie.Need-last-lent-requires Inv-loop μ-loop
@@ -91,13 +106,17 @@ loop-less-2 c = search needs
 
 loop-again-2 : tie.Need-loop-again-2 Inv-loop μ-loop
 loop-again-2 c =
+    let page-words = c .before .before .before .before .before .before .before .before .before .page-words in
+    let cell = c .before .before .cell in
     let s = c .before .before .before .before .before .before .before .before .before .before .before .before .before .before .before .before .args in
     let p = c .before .before .before .before .before .before .before .before .loop in
     let w = c .before .before .before .before .words-at in
     let r = w .ensures in (
-      ask-next (λ k. cellWords (s .b) (s .m .now) (s .d .0) (address (s .b) (s .v .0 + k)) (getD (s .pt .now) k 0) (getD (s .s1 .now) k 0) (getD (s .s2 .now) k 0)) (pageWords (s .b)) (p .j) (omega (arith, c .before .before .before .before .before .before .before .before .before .page-words .ensures .0))
-          (c .before .before .cell .ensures ∙ cell-words (s .b) (s .m .now) (s .d .0) (address (s .b) (s .v .0 + p .j)) (r .0) (r .1) (r .2)) (c .before .if2 .left) (p .inv .0),
-      passed-next (s .b) (s .m .now) (s .d .0) (address (s .b) (s .v .0 + p .j)) (w .result .w) (w .result .x) (w .result .y) (p .to) (p .inv .1) (c .before .before .cell .ensures) (c .before .if2 .left) (c .last-lent .ensures),
+      ask-next (λ k. cellWords (s .b) (s .m .now) (s .d .0) (address (s .b) (s .v .0 + k)) (getD (s .pt .now) k 0) (getD (s .s1 .now) k 0) (getD (s .s2 .now) k 0))
+          (pageWords (s .b)) (p .j) (omega (arith, page-words .ensures .0))
+          (cell .ensures ∙ cell-words (s .b) (s .m .now) (s .d .0) (address (s .b) (s .v .0 + p .j)) (r .0) (r .1) (r .2)) (c .before .if2 .left) (p .inv .0),
+      passed-next (s .b) (s .m .now) (s .d .0) (address (s .b) (s .v .0 + p .j)) (w .result .w) (w .result .x) (w .result .y) (p .to) (p .inv .1) (cell .ensures)
+          (c .before .if2 .left) (c .last-lent .ensures),
     )
 
 returns-2 : tie.Need-returns-2 Inv-loop μ-loop

@@ -54,8 +54,12 @@ next-word-requires c κs = search needs
 loop-holds : tie.Need-loop-holds Inv-loop μ-loop
 loop-holds c =
     let s = c .before .before .before .before .before .before .before .before .before .args in
-    let dir = c .before .before .before .before .before .words-of .result .now in
-    (next-high (used dir) (length dir) 0 (omega arith) (c .next-word .ensures), next-here (used dir) (length dir) 0 (omega arith) (c .next-word .ensures), λ e. rows-first (s .b) (s .m .now) (asking (cell (s .b) (s .m .now) (s .d .0))) (s .d .0) dir e true (cells-run (s .b) (s .m .now) (s .d .0)) (c .next-word .ensures))
+    let dir = c .before .before .before .before .before .words-of .result .now in (
+      next-high (used dir) (length dir) 0 (omega arith) (c .next-word .ensures),
+      next-here (used dir) (length dir) 0 (omega arith) (c .next-word .ensures),
+      λ e. rows-first (s .b) (s .m .now) (asking (cell (s .b) (s .m .now) (s .d .0))) (s .d .0) dir e true (cells-run (s .b) (s .m .now) (s .d .0))
+          (c .next-word .ensures),
+    )
 
 mul-table-of : tie.Need-mul-table-of Inv-loop μ-loop
 mul-table-of c = search needs
@@ -79,47 +83,109 @@ table-of-requires-3 : tie.Need-table-of-requires-3 Inv-loop μ-loop
 table-of-requires-3 c κs = search needs
 
 cast-t16 : tie.Need-cast-t16 Inv-loop μ-loop
-cast-t16 c = omega (arith, dir-short (c .before .before .before .before .before .before .before .before .before .before .before .before .before .before .before .before .before .args .b) (c .before .before .before .before .before .before .before .before .before .before .before .before .before .before .before .before .before .args .m .now) (c .before .before .before .before .before .before .before .before .before .before .before .before .before .before .directory .result .0) (c .before .before .before .before .before .before .before .before .before .before .before .before .before .words-of .ensures), words-most (c .before .before .before .before .before .before .before .before .before .before .before .before .before .before .before .before .before .args .b) (c .before .before .before .before .before .before .before .before .before .before .before .before .before .before .before .before .before .pre .1), c .before .before .before .before .before .before .loop-test .taken)
+cast-t16 c =
+    let s = c .before .before .before .before .before .before .before .before .before .before .before .before .before .before .before .before .before .args in
+    let h = c .before .before .before .before .before .before .before .before .before .before .before .before .before .before .before .before .before .pre in
+    let directory = c .before .before .before .before .before .before .before .before .before .before .before .before .before .before .directory in
+    let words-of = c .before .before .before .before .before .before .before .before .before .before .before .before .before .words-of in
+    let test = c .before .before .before .before .before .before .loop-test in
+    omega (arith, dir-short (s .b) (s .m .now) (directory .result .0) (words-of .ensures), words-most (s .b) (h .1), test .taken)
 
 page-words-requires : tie.Need-page-words-requires Inv-loop μ-loop
 page-words-requires c κs = c .before .before .before .before .before .before .before .before .before .before .before .before .before .before .before .before .before .pre
 
 mul-t18 : tie.Need-mul-t18 Inv-loop μ-loop
 mul-t18 c =
-    let e : c .before .before .before .before .before .before .before .before .loop .i * c .page-words .result ≡ c .before .before .before .before .before .before .before .before .loop .i * pageWords (c .before .before .before .before .before .before .before .before .before .before .before .before .before .before .before .before .before .before .args .b) = rw (c .page-words .ensures .0) in
-    omega (arith, e, row-in (c .before .before .before .before .before .before .before .before .before .before .before .before .before .before .before .before .before .before .args .b) (c .before .before .before .before .before .before .before .before .loop .i) (omega (arith, c .before .before .before .before .before .before .before .loop-test .taken, dir-short (c .before .before .before .before .before .before .before .before .before .before .before .before .before .before .before .before .before .before .args .b) (c .before .before .before .before .before .before .before .before .before .before .before .before .before .before .before .before .before .before .args .m .now) (c .before .before .before .before .before .before .before .before .before .before .before .before .before .before .before .directory .result .0) (c .before .before .before .before .before .before .before .before .before .before .before .before .before .before .words-of .ensures))), most-pages (c .before .before .before .before .before .before .before .before .before .before .before .before .before .before .before .before .before .before .args .b) (c .before .before .before .before .before .before .before .before .before .before .before .before .before .before .before .before .before .before .pre .1))
+    let s = c .before .before .before .before .before .before .before .before .before .before .before .before .before .before .before .before .before .before .args in
+    let h = c .before .before .before .before .before .before .before .before .before .before .before .before .before .before .before .before .before .before .pre in
+    let directory = c .before .before .before .before .before .before .before .before .before .before .before .before .before .before .before .directory in
+    let words-of = c .before .before .before .before .before .before .before .before .before .before .before .before .before .before .words-of in
+    let p = c .before .before .before .before .before .before .before .before .loop in
+    let test = c .before .before .before .before .before .before .before .loop-test in
+    let e : p .i * c .page-words .result ≡ p .i * pageWords (s .b) = rw (c .page-words .ensures .0) in
+    omega (arith, e, row-in (s .b) (p .i) (omega (arith, test .taken, dir-short (s .b) (s .m .now) (directory .result .0) (words-of .ensures))), most-pages (s .b) (h .1))
 
 cells-row-requires : tie.Need-cells-row-requires Inv-loop μ-loop
 cells-row-requires c κs =
-    let e : c .before .before .before .before .before .before .before .before .loop .i * c .page-words .result ≡ c .before .before .before .before .before .before .before .before .loop .i * pageWords (c .before .before .before .before .before .before .before .before .before .before .before .before .before .before .before .before .before .before .args .b) = rw (c .page-words .ensures .0) in
-    (c .before .before .before .before .before .before .before .before .before .before .before .before .before .before .before .before .before .before .pre, (omega (arith, e, row-in (c .before .before .before .before .before .before .before .before .before .before .before .before .before .before .before .before .before .before .args .b) (c .before .before .before .before .before .before .before .before .loop .i) (omega (arith, c .before .before .before .before .before .before .before .loop-test .taken, dir-short (c .before .before .before .before .before .before .before .before .before .before .before .before .before .before .before .before .before .before .args .b) (c .before .before .before .before .before .before .before .before .before .before .before .before .before .before .before .before .before .before .args .m .now) (c .before .before .before .before .before .before .before .before .before .before .before .before .before .before .before .directory .result .0) (c .before .before .before .before .before .before .before .before .before .before .before .before .before .before .words-of .ensures)))), c .before .before .before .before .before .before .before .before .before .before .before .before .before .before .before .before .lender-of .ensures))
+    let s = c .before .before .before .before .before .before .before .before .before .before .before .before .before .before .before .before .before .before .args in
+    let h = c .before .before .before .before .before .before .before .before .before .before .before .before .before .before .before .before .before .before .pre in
+    let lender-of = c .before .before .before .before .before .before .before .before .before .before .before .before .before .before .before .before .lender-of in
+    let directory = c .before .before .before .before .before .before .before .before .before .before .before .before .before .before .before .directory in
+    let words-of = c .before .before .before .before .before .before .before .before .before .before .before .before .before .before .words-of in
+    let p = c .before .before .before .before .before .before .before .before .loop in
+    let test = c .before .before .before .before .before .before .before .loop-test in
+    let e : p .i * c .page-words .result ≡ p .i * pageWords (s .b) = rw (c .page-words .ensures .0) in (
+      h,
+      (omega (arith, e, row-in (s .b) (p .i) (omega (arith, test .taken, dir-short (s .b) (s .m .now) (directory .result .0) (words-of .ensures)))), lender-of .ensures),
+    )
 
 returns : tie.Need-returns Inv-loop μ-loop
 returns c =
+    let directory = c .before .before .before .before .before .before .before .before .before .before .before .before .before .before .before .before .before .directory in
+    let words-of = c .before .before .before .before .before .before .before .before .before .before .before .before .before .before .before .before .words-of in
+    let shadow1 = c .before .before .before .before .before .before .before .before .before .before .before .before .before .before .before .shadow1 in
+    let words-of2 = c .before .before .before .before .before .before .before .before .before .before .before .before .before .before .words-of2 in
+    let shadow2 = c .before .before .before .before .before .before .before .before .before .before .before .before .before .shadow2 in
+    let words-of3 = c .before .before .before .before .before .before .before .before .before .before .before .before .words-of3 in
+    let p = c .before .before .before .before .before .before .before .before .before .before .loop in
+    let test = c .before .before .before .before .before .before .before .before .before .loop-test in
+    let table-of = c .before .before .before .before .before .before .before .table-of in
+    let read = c .before .before .before .before .before .before .read in
+    let table-of2 = c .before .before .before .before .before .table-of2 in
     let s = c .before .before .before .before .before .before .before .before .before .before .before .before .before .before .before .before .before .before .before .before .args in
-    let e = c .before .before .before .before .before .before .before .before .before .before .before .before .before .before .before .before .words-of .ensures ∙ ap (page (s .b) (s .m .now)) (c .before .before .before .before .before .before .before .before .before .before .before .before .before .before .before .before .before .directory .ensures) in
-    asks-stop (s .b) (s .m .now) (cell (s .b) (s .m .now) (s .d .0)) (s .d .0) (c .before .before .before .before .before .before .before .before .before .before .before .before .before .before .before .before .words-of .result .now) e (c .before .before .before .before .before .before .before .before .before .loop-test .taken) (cells-row (s .b) (s .m .now) (s .d .0) (c .before .before .before .before .before .before .before .before .before .before .loop .i) e (c .before .before .before .before .before .before .before .before .before .loop-test .taken) (c .before .before .before .before .before .before .before .before .before .before .loop .inv .1 (c .before .before .before .before .before .before .before .before .before .loop-test .taken)) (c .before .before .before .before .before .before .before .table-of .ensures) (c .before .before .before .before .before .before .before .before .before .before .before .before .before .before .words-of2 .ensures ∙ ap (page (s .b) (s .m .now)) (c .before .before .before .before .before .before .before .before .before .before .before .before .before .before .before .shadow1 .ensures)) (c .before .before .before .before .before .before .read .ensures) (c .before .before .before .before .before .table-of2 .ensures) (c .before .before .before .before .before .before .before .before .before .before .before .before .words-of3 .ensures ∙ ap (page (s .b) (s .m .now)) (c .before .before .before .before .before .before .before .before .before .before .before .before .before .shadow2 .ensures)) (c .before .before .before .before .read2 .ensures) (c .before .before .before .table-of3 .ensures) (ap (λ (x : ℕ). c .before .before .before .before .before .before .before .before .before .before .loop .i * x) (c .before .before .page-words .ensures .0)) (c .before .cells-row .ensures)) (c .if1 .taken) (c .before .before .before .before .before .before .before .before .before .before .loop .inv .2 e)
+    let e = words-of .ensures ∙ ap (page (s .b) (s .m .now)) (directory .ensures) in
+    asks-stop (s .b) (s .m .now) (cell (s .b) (s .m .now) (s .d .0)) (s .d .0) (words-of .result .now) e (test .taken)
+    (cells-row (s .b) (s .m .now) (s .d .0) (p .i) e (test .taken) (p .inv .1 (test .taken)) (table-of .ensures) (words-of2 .ensures ∙ ap (page (s .b) (s .m .now)) (shadow1 .ensures)) (read .ensures) (table-of2 .ensures) (words-of3 .ensures ∙ ap (page (s .b) (s .m .now)) (shadow2 .ensures)) (c .before .before .before .before .read2 .ensures) (c .before .before .before .table-of3 .ensures) (ap (λ (x : ℕ). p .i * x) (c .before .before .page-words .ensures .0)) (c .before .cells-row .ensures))
+    (c .if1 .taken) (p .inv .2 e)
 
 add-next-word : tie.Need-add-next-word Inv-loop μ-loop
-add-next-word c = omega (arith, dir-short (c .before .before .before .before .before .before .before .before .before .before .before .before .before .before .before .before .before .before .before .before .args .b) (c .before .before .before .before .before .before .before .before .before .before .before .before .before .before .before .before .before .before .before .before .args .m .now) (c .before .before .before .before .before .before .before .before .before .before .before .before .before .before .before .before .before .directory .result .0) (c .before .before .before .before .before .before .before .before .before .before .before .before .before .before .before .before .words-of .ensures), words-most (c .before .before .before .before .before .before .before .before .before .before .before .before .before .before .before .before .before .before .before .before .args .b) (c .before .before .before .before .before .before .before .before .before .before .before .before .before .before .before .before .before .before .before .before .pre .1), c .before .before .before .before .before .before .before .before .before .loop-test .taken)
+add-next-word c =
+    let s = c .before .before .before .before .before .before .before .before .before .before .before .before .before .before .before .before .before .before .before .before .args in
+    let h = c .before .before .before .before .before .before .before .before .before .before .before .before .before .before .before .before .before .before .before .before .pre in
+    let directory = c .before .before .before .before .before .before .before .before .before .before .before .before .before .before .before .before .before .directory in
+    let words-of = c .before .before .before .before .before .before .before .before .before .before .before .before .before .before .before .before .words-of in
+    let test = c .before .before .before .before .before .before .before .before .before .loop-test in
+    omega (arith, dir-short (s .b) (s .m .now) (directory .result .0) (words-of .ensures), words-most (s .b) (h .1), test .taken)
 
 next-word-requires-2 : tie.Need-next-word-requires-2 Inv-loop μ-loop
 next-word-requires-2 c κs = search needs
 
 loop-less : tie.Need-loop-less Inv-loop μ-loop
-loop-less c = omega (arith, c .before .before .before .before .before .before .before .before .before .before .loop-test .taken, next-low (used (c .before .before .before .before .before .before .before .before .before .before .before .before .before .before .before .before .before .words-of .result .now)) (length (c .before .before .before .before .before .before .before .before .before .before .before .before .before .before .before .before .before .words-of .result .now)) (c .before .before .before .before .before .before .before .before .before .before .before .loop .i + 1) (c .next-word2 .ensures))
+loop-less c =
+    let words-of = c .before .before .before .before .before .before .before .before .before .before .before .before .before .before .before .before .before .words-of in
+    let p = c .before .before .before .before .before .before .before .before .before .before .before .loop in
+    let test = c .before .before .before .before .before .before .before .before .before .before .loop-test in
+    omega (arith, test .taken, next-low (used (words-of .result .now)) (length (words-of .result .now)) (p .i + 1) (c .next-word2 .ensures))
 
 loop-again : tie.Need-loop-again Inv-loop μ-loop
 loop-again c =
+    let words-of = c .before .before .before .before .before .before .before .before .before .before .before .before .before .before .before .before .before .words-of in
+    let shadow1 = c .before .before .before .before .before .before .before .before .before .before .before .before .before .before .before .before .shadow1 in
+    let words-of2 = c .before .before .before .before .before .before .before .before .before .before .before .before .before .before .before .words-of2 in
+    let shadow2 = c .before .before .before .before .before .before .before .before .before .before .before .before .before .before .shadow2 in
+    let words-of3 = c .before .before .before .before .before .before .before .before .before .before .before .before .before .words-of3 in
+    let p = c .before .before .before .before .before .before .before .before .before .before .before .loop in
+    let test = c .before .before .before .before .before .before .before .before .before .before .loop-test in
+    let table-of = c .before .before .before .before .before .before .before .before .table-of in
+    let read = c .before .before .before .before .before .before .before .read in
+    let table-of2 = c .before .before .before .before .before .before .table-of2 in
+    let read2 = c .before .before .before .before .before .read2 in
     let s = c .before .before .before .before .before .before .before .before .before .before .before .before .before .before .before .before .before .before .before .before .before .args in
-    let dir = c .before .before .before .before .before .before .before .before .before .before .before .before .before .before .before .before .before .words-of .result .now in
-    (next-high (used dir) (length dir) (c .before .before .before .before .before .before .before .before .before .before .before .loop .i + 1) (omega (arith, c .before .before .before .before .before .before .before .before .before .before .loop-test .taken)) (c .next-word2 .ensures), next-here (used dir) (length dir) (c .before .before .before .before .before .before .before .before .before .before .before .loop .i + 1) (omega (arith, c .before .before .before .before .before .before .before .before .before .before .loop-test .taken)) (c .next-word2 .ensures), λ e. asks-next (s .b) (s .m .now) (cell (s .b) (s .m .now) (s .d .0)) (s .d .0) dir e (c .before .before .before .before .before .before .before .before .before .before .loop-test .taken) (cells-row (s .b) (s .m .now) (s .d .0) (c .before .before .before .before .before .before .before .before .before .before .before .loop .i) e (c .before .before .before .before .before .before .before .before .before .before .loop-test .taken) (c .before .before .before .before .before .before .before .before .before .before .before .loop .inv .1 (c .before .before .before .before .before .before .before .before .before .before .loop-test .taken)) (c .before .before .before .before .before .before .before .before .table-of .ensures) (c .before .before .before .before .before .before .before .before .before .before .before .before .before .before .before .words-of2 .ensures ∙ ap (page (s .b) (s .m .now)) (c .before .before .before .before .before .before .before .before .before .before .before .before .before .before .before .before .shadow1 .ensures)) (c .before .before .before .before .before .before .before .read .ensures) (c .before .before .before .before .before .before .table-of2 .ensures) (c .before .before .before .before .before .before .before .before .before .before .before .before .before .words-of3 .ensures ∙ ap (page (s .b) (s .m .now)) (c .before .before .before .before .before .before .before .before .before .before .before .before .before .before .shadow2 .ensures)) (c .before .before .before .before .before .read2 .ensures) (c .before .before .before .before .table-of3 .ensures) (ap (λ (x : ℕ). c .before .before .before .before .before .before .before .before .before .before .before .loop .i * x) (c .before .before .before .page-words .ensures .0)) (c .before .before .cells-row .ensures)) (c .before .if1 .left) (c .next-word2 .ensures) (c .before .before .before .before .before .before .before .before .before .before .before .loop .inv .2 e))
+    let dir = words-of .result .now in (
+      next-high (used dir) (length dir) (p .i + 1) (omega (arith, test .taken)) (c .next-word2 .ensures),
+      next-here (used dir) (length dir) (p .i + 1) (omega (arith, test .taken)) (c .next-word2 .ensures),
+      λ e. asks-next (s .b) (s .m .now) (cell (s .b) (s .m .now) (s .d .0)) (s .d .0) dir e (test .taken)
+          (cells-row (s .b) (s .m .now) (s .d .0) (p .i) e (test .taken) (p .inv .1 (test .taken)) (table-of .ensures) (words-of2 .ensures ∙ ap (page (s .b) (s .m .now)) (shadow1 .ensures)) (read .ensures) (table-of2 .ensures) (words-of3 .ensures ∙ ap (page (s .b) (s .m .now)) (shadow2 .ensures)) (read2 .ensures) (c .before .before .before .before .table-of3 .ensures) (ap (λ (x : ℕ). p .i * x) (c .before .before .before .page-words .ensures .0)) (c .before .before .cells-row .ensures))
+          (c .before .if1 .left) (c .next-word2 .ensures) (p .inv .2 e),
+    )
 
 returns-2 : tie.Need-returns-2 Inv-loop μ-loop
 returns-2 c =
+    let directory = c .before .before .before .before .before .before .before .before .directory in
+    let words-of = c .before .before .before .before .before .before .before .words-of in
     let s = c .before .before .before .before .before .before .before .before .before .before .before .args in
-    let e = c .before .before .before .before .before .before .before .words-of .ensures ∙ ap (page (s .b) (s .m .now)) (c .before .before .before .before .before .before .before .before .directory .ensures) in
-    sym (rows-end (s .b) (s .m .now) (asking (cell (s .b) (s .m .now) (s .d .0))) (s .d .0) (c .before .before .before .before .before .before .before .words-of .result .now) e true (c .loop-test .left) (c .before .loop .inv .2 e))
+    let e = words-of .ensures ∙ ap (page (s .b) (s .m .now)) (directory .ensures) in
+    sym (rows-end (s .b) (s .m .now) (asking (cell (s .b) (s .m .now) (s .d .0))) (s .d .0) (words-of .result .now) e true (c .loop-test .left) (c .before .loop .inv .2 e))
 
 pub cells-test-spec : {M : Type 1} → statement M
 cells-test-spec =

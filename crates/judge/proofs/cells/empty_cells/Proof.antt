@@ -20,7 +20,8 @@ empty-block-requires-3 : tie.Need-empty-block-requires-3
 empty-block-requires-3 c κs = search needs
 
 returns-3 : tie.Need-returns-3
-returns-3 c = rw (yes (c .before .before .before .before .empty-block .ensures) (c .before .before .before .if1 .left), yes (c .before .before .empty-block2 .ensures) (c .before .if2 .left)) (c .empty-block3 .ensures)
+returns-3 c = rw (yes (c .before .before .before .before .empty-block .ensures) (c .before .before .before .if1 .left), yes (c .before .before .empty-block2 .ensures) (c .before .if2 .left))
+    (c .empty-block3 .ensures)
 
 pub empty-cells-spec : {M : Type 1} → statement M
 empty-cells-spec =

@@ -28,9 +28,12 @@ page-of-requires-2 c κs = search needs
 
 returns-2 : tie.Need-returns-2
 returns-2 c =
+    let virtual-page = c .before .before .before .before .before .before .before .virtual-page in
+    let table-word = c .before .before .before .before .before .before .table-word in
+    let first = c .before .before .before .before .before .if1 in
     let s = c .before .before .before .before .before .before .before .before .before .args in
-    let e = c .before .before .before .before .before .before .table-word .ensures ∙ ap (tableWord (s .b) (s .m .now) (s .p .directory .0)) (c .before .before .before .before .before .before .before .virtual-page .ensures) in
-    rw (← e, unequal refl refl (c .before .before .before .before .before .if1 .left), unequal (c .before .before .before .before .page-of .ensures) (c .before .before .before .page-of2 .ensures) (c .if2 .taken))
+    let e = table-word .ensures ∙ ap (tableWord (s .b) (s .m .now) (s .p .directory .0)) (virtual-page .ensures) in
+    rw (← e, unequal refl refl (first .left), unequal (c .before .before .before .before .page-of .ensures) (c .before .before .before .page-of2 .ensures) (c .if2 .taken))
 
 accessible-requires : tie.Need-accessible-requires
 accessible-requires c κs = search needs
@@ -40,9 +43,14 @@ accessible-requires-2 c κs = search needs
 
 returns-3 : tie.Need-returns-3
 returns-3 c =
+    let virtual-page = c .before .before .before .before .before .before .before .before .before .before .virtual-page in
+    let table-word = c .before .before .before .before .before .before .before .before .before .table-word in
+    let first = c .before .before .before .before .before .before .before .before .if1 in
+    let page-of = c .before .before .before .before .before .before .before .page-of in
+    let page-of2 = c .before .before .before .before .before .before .page-of2 in
     let s = c .before .before .before .before .before .before .before .before .before .before .before .before .args in
-    let e = c .before .before .before .before .before .before .before .before .before .table-word .ensures ∙ ap (tableWord (s .b) (s .m .now) (s .p .directory .0)) (c .before .before .before .before .before .before .before .before .before .before .virtual-page .ensures) in
-    rw (← e, unequal refl refl (c .before .before .before .before .before .before .before .before .if1 .left), equal (c .before .before .before .before .before .before .before .page-of .ensures) (c .before .before .before .before .before .before .page-of2 .ensures) (c .before .before .before .if2 .left), unequal (c .before .before .accessible .ensures) (c .before .accessible2 .ensures) (c .if3 .taken))
+    let e = table-word .ensures ∙ ap (tableWord (s .b) (s .m .now) (s .p .directory .0)) (virtual-page .ensures) in
+    rw (← e, unequal refl refl (first .left), equal (page-of .ensures) (page-of2 .ensures) (c .before .before .before .if2 .left), unequal (c .before .before .accessible .ensures) (c .before .accessible2 .ensures) (c .if3 .taken))
 
 rights-requires : tie.Need-rights-requires
 rights-requires c κs = search needs
@@ -52,18 +60,35 @@ has-rights-requires c κs = search needs
 
 returns-4 : tie.Need-returns-4
 returns-4 c =
+    let virtual-page = c .before .before .before .before .before .before .before .before .before .before .before .before .before .virtual-page in
+    let table-word = c .before .before .before .before .before .before .before .before .before .before .before .before .table-word in
+    let first = c .before .before .before .before .before .before .before .before .before .before .before .if1 in
+    let page-of = c .before .before .before .before .before .before .before .before .before .before .page-of in
+    let page-of2 = c .before .before .before .before .before .before .before .before .before .page-of2 in
+    let second = c .before .before .before .before .before .before .if2 in
+    let accessible = c .before .before .before .before .before .accessible in
     let s = c .before .before .before .before .before .before .before .before .before .before .before .before .before .before .before .args in
-    let e = c .before .before .before .before .before .before .before .before .before .before .before .before .table-word .ensures ∙ ap (tableWord (s .b) (s .m .now) (s .p .directory .0)) (c .before .before .before .before .before .before .before .before .before .before .before .before .before .virtual-page .ensures) in
-    rw (← e, unequal refl refl (c .before .before .before .before .before .before .before .before .before .before .before .if1 .left), equal (c .before .before .before .before .before .before .before .before .before .before .page-of .ensures) (c .before .before .before .before .before .before .before .before .before .page-of2 .ensures) (c .before .before .before .before .before .before .if2 .left), equal (c .before .before .before .before .before .accessible .ensures) (c .before .before .before .before .accessible2 .ensures) (c .before .before .before .if3 .left), no (c .before .has-rights .ensures ∙ ap (λ (x : ℕ). holds x (c .before .before .before .before .before .before .before .before .before .before .before .before .table-word .result)) (c .before .before .rights .ensures)) (c .if4 .taken))
+    let e = table-word .ensures ∙ ap (tableWord (s .b) (s .m .now) (s .p .directory .0)) (virtual-page .ensures) in
+    rw (← e, unequal refl refl (first .left), equal (page-of .ensures) (page-of2 .ensures) (second .left), equal (accessible .ensures) (c .before .before .before .before .accessible2 .ensures) (c .before .before .before .if3 .left), no (c .before .has-rights .ensures ∙ ap (λ (x : ℕ). holds x (table-word .result)) (c .before .before .rights .ensures)) (c .if4 .taken))
 
 table-word-requires-2 : tie.Need-table-word-requires-2
 table-word-requires-2 c κs = search needs
 
 returns-5 : tie.Need-returns-5
 returns-5 c =
+    let virtual-page = c .before .before .before .before .before .before .before .before .before .before .before .before .before .before .before .virtual-page in
+    let table-word = c .before .before .before .before .before .before .before .before .before .before .before .before .before .before .table-word in
+    let first = c .before .before .before .before .before .before .before .before .before .before .before .before .before .if1 in
+    let page-of = c .before .before .before .before .before .before .before .before .before .before .before .before .page-of in
+    let page-of2 = c .before .before .before .before .before .before .before .before .before .before .before .page-of2 in
+    let second = c .before .before .before .before .before .before .before .before .if2 in
+    let accessible = c .before .before .before .before .before .before .before .accessible in
+    let accessible2 = c .before .before .before .before .before .before .accessible2 in
+    let third = c .before .before .before .before .before .if3 in
     let s = c .before .before .before .before .before .before .before .before .before .before .before .before .before .before .before .before .before .args in
-    let e = c .before .before .before .before .before .before .before .before .before .before .before .before .before .before .table-word .ensures ∙ ap (tableWord (s .b) (s .m .now) (s .p .directory .0)) (c .before .before .before .before .before .before .before .before .before .before .before .before .before .before .before .virtual-page .ensures) in
-    rw (← e, unequal refl refl (c .before .before .before .before .before .before .before .before .before .before .before .before .before .if1 .left), equal (c .before .before .before .before .before .before .before .before .before .before .before .before .page-of .ensures) (c .before .before .before .before .before .before .before .before .before .before .before .page-of2 .ensures) (c .before .before .before .before .before .before .before .before .if2 .left), equal (c .before .before .before .before .before .before .before .accessible .ensures) (c .before .before .before .before .before .before .accessible2 .ensures) (c .before .before .before .before .before .if3 .left), yes (c .before .before .before .has-rights .ensures ∙ ap (λ (x : ℕ). holds x (c .before .before .before .before .before .before .before .before .before .before .before .before .before .before .table-word .result)) (c .before .before .before .before .rights .ensures)) (c .before .before .if4 .left)) (same-eqb (c .before .table-word2 .ensures ∙ ap (tableWord (s .b) (s .m .now) (s .p .shadow1 .0)) (c .before .before .before .before .before .before .before .before .before .before .before .before .before .before .before .virtual-page .ensures)) refl)
+    let e = table-word .ensures ∙ ap (tableWord (s .b) (s .m .now) (s .p .directory .0)) (virtual-page .ensures) in
+    rw (← e, unequal refl refl (first .left), equal (page-of .ensures) (page-of2 .ensures) (second .left), equal (accessible .ensures) (accessible2 .ensures) (third .left), yes (c .before .before .before .has-rights .ensures ∙ ap (λ (x : ℕ). holds x (table-word .result)) (c .before .before .before .before .rights .ensures)) (c .before .before .if4 .left))
+    (same-eqb (c .before .table-word2 .ensures ∙ ap (tableWord (s .b) (s .m .now) (s .p .shadow1 .0)) (virtual-page .ensures)) refl)
 
 pub from-parent-spec : {M : Type 1} → statement M
 from-parent-spec =

@@ -19,8 +19,12 @@ read-word-requires c κs = search needs
 
 returns : tie.Need-returns
 returns c =
-    let s = c .before .before .before .before .before .args in
-    (c .before .before .directory .ensures ∙ ap (directory (s .b) (s .m .now)) (c .before .before .before .parent .ensures), c .before .shadow1 .ensures ∙ ap (shadow1 (s .b) (s .m .now)) (c .before .before .before .parent .ensures), c .read-word .ensures)
+    let parent = c .before .before .before .parent in
+    let s = c .before .before .before .before .before .args in (
+      c .before .before .directory .ensures ∙ ap (directory (s .b) (s .m .now)) (parent .ensures),
+      c .before .shadow1 .ensures ∙ ap (shadow1 (s .b) (s .m .now)) (parent .ensures),
+      c .read-word .ensures,
+    )
 
 pub lender-of-spec : {M : Type 1} → statement M
 lender-of-spec =

@@ -21,7 +21,8 @@ child-at-requires : tie.Need-child-at-requires
 child-at-requires c κs = search needs
 
 returns-3 : tie.Need-returns-3
-returns-3 c = rw (yes (c .before .before .before .before .virtual-address .ensures) (c .before .before .before .if1 .left), unequal (c .before .before .table-for .ensures) refl (c .before .if2 .left)) (c .child-at .ensures)
+returns-3 c = rw (yes (c .before .before .before .before .virtual-address .ensures) (c .before .before .before .if1 .left), unequal (c .before .before .table-for .ensures) refl (c .before .if2 .left))
+    (c .child-at .ensures)
 
 pub lent-word-spec : {M : Type 1} → statement M
 lent-word-spec =

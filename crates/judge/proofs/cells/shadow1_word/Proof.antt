@@ -19,12 +19,15 @@ child-forms-requires : tie.Need-child-forms-requires
 child-forms-requires c κs = search needs
 
 returns-2 : tie.Need-returns-2
-returns-2 c = rw (unequal refl refl (c .before .before .before .before .if1 .left), equal refl refl (c .before .before .before .if2 .taken)) (rw (c .before .page-of .ensures, c .before .before .address-of .ensures) at (c .child-forms .ensures))
+returns-2 c = rw (unequal refl refl (c .before .before .before .before .if1 .left), equal refl refl (c .before .before .before .if2 .taken))
+    (rw (c .before .page-of .ensures, c .before .before .address-of .ensures) at (c .child-forms .ensures))
 
 returns-3 : tie.Need-returns-3
 returns-3 c =
+    let first = c .before .before .if1 in
     let s = c .before .before .before .before .args in
-    rw (unequal refl refl (c .before .before .if1 .left), unequal refl refl (c .before .if2 .left)) (sym (passed-same (s .b) (s .m .now) (s .d .0) (c .before .before .if1 .left) (c .if3 .taken) (c .before .before .before .before .pre .1 .1)))
+    rw (unequal refl refl (first .left), unequal refl refl (c .before .if2 .left))
+    (sym (passed-same (s .b) (s .m .now) (s .d .0) (first .left) (c .if3 .taken) (c .before .before .before .before .pre .1 .1)))
 
 lent-word-requires : tie.Need-lent-word-requires
 lent-word-requires c κs = search needs

@@ -41,7 +41,8 @@ returns-2 : tie.Need-returns-2
 returns-2 c =
     let s = c .before .before .before .before .before .args in
     let e : s .i + 8 - s .i ≡ 8 = omega arith in
-    rw (yes (c .before .before .before .block-at .ensures) (c .before .before .if1 .left)) (ap (λ (k : ℕ). eqb k 0) (c .count-of .ensures ∙ ap (λ (k : ℕ). count 1 (take k (drop (s .i) (s .s1 .now)))) e))
+    rw (yes (c .before .before .before .block-at .ensures) (c .before .before .if1 .left))
+    (ap (λ (k : ℕ). eqb k 0) (c .count-of .ensures ∙ ap (λ (k : ℕ). count 1 (take k (drop (s .i) (s .s1 .now)))) e))
 
 pub childless-spec : {M : Type 1} → statement M
 childless-spec =

@@ -31,9 +31,10 @@ loop-less c = search needs
 
 loop-again : tie.Need-loop-again Inv-loop μ-loop
 loop-again c =
+    let h = c .before .before .before .before .before .before .pre in
     let s = c .before .before .before .before .before .before .args in
     let p = c .before .before .before .loop in
-    p .inv ∙ childless-past (s .n) (p .j) (s .s1 .now) (omega (arith, c .before .before .before .before .before .before .pre)) (s .pt .now) (c .before .childless .ensures) (c .if1 .taken)
+    p .inv ∙ childless-past (s .n) (p .j) (s .s1 .now) (omega (arith, h)) (s .pt .now) (c .before .childless .ensures) (c .if1 .taken)
 
 mul-is-child : tie.Need-mul-is-child Inv-loop μ-loop
 mul-is-child c = search needs

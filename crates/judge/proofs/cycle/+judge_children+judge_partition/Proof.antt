@@ -197,8 +197,16 @@ judge-children-loop-holds : (t : ℕ) → judge-children-lts.Need-loop-holds (ju
     judge-children-μ-loop
 judge-children-loop-holds t c =
     let s = c .before .before .before .before .before .before .before .args in
-    let dir = c .before .before .before .words-of .result .now in
-    (refl, next-high (used dir) (length dir) 0 (omega arith) (c .next-word .ensures), next-here (used dir) (length dir) 0 (omega arith) (c .next-word .ensures), λ d e e1. rows-first (s .b) (s .m .now) (childStep (s .b) (s .m .now) d (W.child (children (s .b) (s .m .now)) (own (s .b) (s .m .now)) (partitionTest (s .b) (s .m .now)) (s .left))) d dir e (some (s .seen .now)) (children-run (s .b) (s .m .now) d (W.child (children (s .b) (s .m .now)) (own (s .b) (s .m .now)) (partitionTest (s .b) (s .m .now)) (s .left)) (s .seen .now)) (c .next-word .ensures))
+    let dir = c .before .before .before .words-of .result .now in (
+      refl,
+      next-high (used dir) (length dir) 0 (omega arith) (c .next-word .ensures),
+      next-here (used dir) (length dir) 0 (omega arith) (c .next-word .ensures),
+      λ d e e1. rows-first (s .b) (s .m .now)
+          (childStep (s .b) (s .m .now) d (W.child (children (s .b) (s .m .now)) (own (s .b) (s .m .now)) (partitionTest (s .b) (s .m .now)) (s .left))) d dir e
+          (some (s .seen .now))
+          (children-run (s .b) (s .m .now) d (W.child (children (s .b) (s .m .now)) (own (s .b) (s .m .now)) (partitionTest (s .b) (s .m .now)) (s .left)) (s .seen .now))
+          (c .next-word .ensures),
+    )
 
 judge-children-mul-table-of : (t : ℕ) → judge-children-lts.Need-mul-table-of (judge-children-claims t)
     (judge-children-at t)
@@ -272,11 +280,21 @@ judge-children-loop2-holds : (t : ℕ) → judge-children-lts.Need-loop2-holds (
     judge-children-Inv-loop
     judge-children-μ-loop
 judge-children-loop2-holds t c =
+    let words-of = c .before .before .before .before .before .before .before .before .before .before .before .words-of in
+    let p = c .before .before .before .before .before .before .before .loop in
+    let table-of = c .before .before .before .before .table-of in
     let s = c .before .before .before .before .before .before .before .before .before .before .before .before .before .before .before .args in
-    let pt = c .before .before .before .before .table-of .result .now in
+    let pt = table-of .result .now in
     let s1 = c .before .before .table-of2 .result .now in
-    let n = c .before .least .result in
-    (refl, next-high (λ k. childWords (getD pt k 0) (getD s1 k 0)) n 0 (omega arith) (c .next-child .ensures), next-here (λ k. childWords (getD pt k 0) (getD s1 k 0)) n 0 (omega arith) (c .next-child .ensures), picked-first (λ k. childWords (getD pt k 0) (getD s1 k 0)) (λ t k. W.child (children (s .b) (s .m .now)) (own (s .b) (s .m .now)) (partitionTest (s .b) (s .m .now)) (s .left) t (pageOf (s .b) (getD pt k 0))) (pageWords (s .b)) n (child-short (s .b) (s .m .now) s1 (getD (c .before .before .before .before .before .before .before .before .before .before .before .words-of .result .now) (c .before .before .before .before .before .before .before .loop .i) 0) (c .before .before .before .before .table-of .ensures) (c .before .least .ensures)) (child-rest pt s1 (c .before .least .ensures)) (some (c .before .before .before .before .before .before .before .loop .seen)) (c .next-child .ensures))
+    let n = c .before .least .result in (
+      refl,
+      next-high (λ k. childWords (getD pt k 0) (getD s1 k 0)) n 0 (omega arith) (c .next-child .ensures),
+      next-here (λ k. childWords (getD pt k 0) (getD s1 k 0)) n 0 (omega arith) (c .next-child .ensures),
+      picked-first (λ k. childWords (getD pt k 0) (getD s1 k 0))
+          (λ t k. W.child (children (s .b) (s .m .now)) (own (s .b) (s .m .now)) (partitionTest (s .b) (s .m .now)) (s .left) t (pageOf (s .b) (getD pt k 0)))
+          (pageWords (s .b)) n (child-short (s .b) (s .m .now) s1 (getD (words-of .result .now) (p .i) 0) (table-of .ensures) (c .before .least .ensures))
+          (child-rest pt s1 (c .before .least .ensures)) (some (p .seen)) (c .next-child .ensures),
+    )
 
 judge-children-same-length : (t : ℕ) → judge-children-lts.Need-same-length (judge-children-claims t)
     (judge-children-at t)
@@ -295,13 +313,28 @@ judge-children-returns : (t : ℕ) → judge-children-lts.Need-returns (judge-ch
     judge-children-Inv-loop
     judge-children-μ-loop
 judge-children-returns t c =
+    let directory = c .before .before .before .before .before .before .before .before .before .before .before .before .before .before .before .directory in
+    let words-of = c .before .before .before .before .before .before .before .before .before .before .before .before .before .before .words-of in
+    let shadow1 = c .before .before .before .before .before .before .before .before .before .before .before .before .before .shadow1 in
+    let words-of2 = c .before .before .before .before .before .before .before .before .before .before .before .before .words-of2 in
+    let p = c .before .before .before .before .before .before .before .before .before .before .loop in
+    let test = c .before .before .before .before .before .before .before .before .before .loop-test in
+    let table-of = c .before .before .before .before .before .before .before .table-of in
+    let read = c .before .before .before .before .before .before .read in
+    let table-of2 = c .before .before .before .before .before .table-of2 in
+    let least = c .before .before .before .before .least in
+    let q = c .before .before .loop2 in
     let s = c .before .before .before .before .before .before .before .before .before .before .before .before .before .before .before .before .before .before .args in
-    let pt = c .before .before .before .before .before .before .before .table-of .result .now in
-    let s1 = c .before .before .before .before .before .table-of2 .result .now in
-    let n = c .before .before .before .before .least .result in
-    let e = c .before .before .before .before .before .before .before .before .before .before .before .before .before .before .words-of .ensures ∙ ap (page (s .b) (s .m .now)) (c .before .before .before .before .before .before .before .before .before .before .before .before .before .before .before .directory .ensures) in
-    let e1 = c .before .before .before .before .before .before .before .before .before .before .before .before .words-of2 .ensures ∙ ap (page (s .b) (s .m .now)) (c .before .before .before .before .before .before .before .before .before .before .before .before .before .shadow1 .ensures) in
-    rows-stop (s .b) (s .m .now) (λ v. childWords (mapping (s .b) (s .m .now) (s .d .0) v) (lent (s .b) (s .m .now) (s .d .0) v)) (λ t v. (W.child (children (s .b) (s .m .now)) (own (s .b) (s .m .now)) (partitionTest (s .b) (s .m .now)) (s .left)) t (pageOf (s .b) (mapping (s .b) (s .m .now) (s .d .0) v))) (s .d .0) (c .before .before .before .before .before .before .before .before .before .before .before .before .before .before .words-of .result .now) e (c .before .before .before .before .before .before .before .before .before .before .loop .i) (some (c .before .before .before .before .before .before .before .before .before .before .loop .seen)) (c .before .before .before .before .before .before .before .before .before .loop-test .taken) (children-row (s .b) (s .m .now) (s .d .0) (c .before .before .before .before .before .before .before .before .before .before .loop .i) e (c .before .before .before .before .before .before .before .before .before .loop-test .taken) (c .before .before .before .before .before .before .before .before .before .before .loop .inv .2 (c .before .before .before .before .before .before .before .before .before .loop-test .taken)) (c .before .before .before .before .before .before .before .table-of .ensures) e1 (c .before .before .before .before .before .before .read .ensures) (c .before .before .before .before .before .table-of2 .ensures) (W.child (children (s .b) (s .m .now)) (own (s .b) (s .m .now)) (partitionTest (s .b) (s .m .now)) (s .left)) (some (c .before .before .before .before .before .before .before .before .before .before .loop .seen)) ∙ c .before .before .loop2 .inv .3 ∙ picked-fails (λ k. childWords (getD pt k 0) (getD s1 k 0)) (λ t k. W.child (children (s .b) (s .m .now)) (own (s .b) (s .m .now)) (partitionTest (s .b) (s .m .now)) (s .left) t (pageOf (s .b) (getD pt k 0))) (pageWords (s .b)) n (child-short (s .b) (s .m .now) s1 (getD (c .before .before .before .before .before .before .before .before .before .before .before .before .before .before .words-of .result .now) (c .before .before .before .before .before .before .before .before .before .before .loop .i) 0) (c .before .before .before .before .before .before .before .table-of .ensures) (c .before .before .before .before .least .ensures)) (child-rest pt s1 (c .before .before .before .before .least .ensures)) (some (c .before .before .loop2 .seen)) (c .before .loop2-test .taken) (picked-is (λ k. childWords (getD pt k 0) (getD s1 k 0)) (λ t k. W.child (children (s .b) (s .m .now)) (own (s .b) (s .m .now)) (partitionTest (s .b) (s .m .now)) (s .left) t (pageOf (s .b) (getD pt k 0))) (c .before .before .loop2 .seen) (c .before .before .loop2 .j) (c .before .before .loop2 .inv .2 (c .before .loop2-test .taken)) ∙ child-none _ _ _ _ _ _ (c .if1 .taken))) (c .before .before .before .before .before .before .before .before .before .before .loop .inv .3 (s .d .0) e e1)
+    let pt = table-of .result .now in
+    let s1 = table-of2 .result .now in
+    let n = least .result in
+    let e = words-of .ensures ∙ ap (page (s .b) (s .m .now)) (directory .ensures) in
+    let e1 = words-of2 .ensures ∙ ap (page (s .b) (s .m .now)) (shadow1 .ensures) in
+    rows-stop (s .b) (s .m .now) (λ v. childWords (mapping (s .b) (s .m .now) (s .d .0) v) (lent (s .b) (s .m .now) (s .d .0) v))
+    (λ t v. (W.child (children (s .b) (s .m .now)) (own (s .b) (s .m .now)) (partitionTest (s .b) (s .m .now)) (s .left)) t (pageOf (s .b) (mapping (s .b) (s .m .now) (s .d .0) v)))
+    (s .d .0) (words-of .result .now) e (p .i) (some (p .seen)) (test .taken)
+    (children-row (s .b) (s .m .now) (s .d .0) (p .i) e (test .taken) (p .inv .2 (test .taken)) (table-of .ensures) e1 (read .ensures) (table-of2 .ensures) (W.child (children (s .b) (s .m .now)) (own (s .b) (s .m .now)) (partitionTest (s .b) (s .m .now)) (s .left)) (some (p .seen)) ∙ q .inv .3 ∙ picked-fails (λ k. childWords (getD pt k 0) (getD s1 k 0)) (λ t k. W.child (children (s .b) (s .m .now)) (own (s .b) (s .m .now)) (partitionTest (s .b) (s .m .now)) (s .left) t (pageOf (s .b) (getD pt k 0))) (pageWords (s .b)) n (child-short (s .b) (s .m .now) s1 (getD (words-of .result .now) (p .i) 0) (table-of .ensures) (least .ensures)) (child-rest pt s1 (least .ensures)) (some (q .seen)) (c .before .loop2-test .taken) (picked-is (λ k. childWords (getD pt k 0) (getD s1 k 0)) (λ t k. W.child (children (s .b) (s .m .now)) (own (s .b) (s .m .now)) (partitionTest (s .b) (s .m .now)) (s .left) t (pageOf (s .b) (getD pt k 0))) (q .seen) (q .j) (q .inv .2 (c .before .loop2-test .taken)) ∙ child-none _ _ _ _ _ _ (c .if1 .taken)))
+    (p .inv .3 (s .d .0) e e1)
 
 judge-children-mul-page-of : (t : ℕ) → judge-children-lts.Need-mul-page-of (judge-children-claims t)
     (judge-children-at t)
@@ -348,7 +381,9 @@ judge-children-judge-partition-requires :
     judge-children-μ-loop2
     judge-children-Inv-loop
     judge-children-μ-loop
-judge-children-judge-partition-requires t c κs = (omega (arith, c .before .before .before .before .before .before .before .before .before .before .before .before .before .before .before .before .before .before .before .before .before .pre .0, c .before .before .before .if1 .left), c .before .before .before .before .before .before .before .before .before .before .before .before .before .before .before .before .before .before .before .before .before .pre .1)
+judge-children-judge-partition-requires t c κs =
+    let h = c .before .before .before .before .before .before .before .before .before .before .before .before .before .before .before .before .before .before .before .before .before .pre in
+    (omega (arith, h .0, c .before .before .before .if1 .left), h .1)
 
 judge-children-same-length-2 : (t : ℕ) → judge-children-lts.Need-same-length-2 (judge-children-claims t)
     (judge-children-at t)
@@ -367,13 +402,31 @@ judge-children-returns-2 : (t : ℕ) → judge-children-lts.Need-returns-2 (judg
     judge-children-Inv-loop
     judge-children-μ-loop
 judge-children-returns-2 t c =
+    let directory = c .before .before .before .before .before .before .before .before .before .before .before .before .before .before .before .before .before .before .before .before .before .before .directory in
+    let words-of = c .before .before .before .before .before .before .before .before .before .before .before .before .before .before .before .before .before .before .before .before .before .words-of in
+    let shadow1 = c .before .before .before .before .before .before .before .before .before .before .before .before .before .before .before .before .before .before .before .before .shadow1 in
+    let words-of2 = c .before .before .before .before .before .before .before .before .before .before .before .before .before .before .before .before .before .before .before .words-of2 in
+    let p = c .before .before .before .before .before .before .before .before .before .before .before .before .before .before .before .before .before .loop in
+    let test = c .before .before .before .before .before .before .before .before .before .before .before .before .before .before .before .before .loop-test in
+    let table-of = c .before .before .before .before .before .before .before .before .before .before .before .before .before .before .table-of in
+    let read = c .before .before .before .before .before .before .before .before .before .before .before .before .before .read in
+    let table-of2 = c .before .before .before .before .before .before .before .before .before .before .before .before .table-of2 in
+    let least = c .before .before .before .before .before .before .before .before .before .before .before .least in
+    let q = c .before .before .before .before .before .before .before .before .before .loop2 in
+    let loop2-test = c .before .before .before .before .before .before .before .before .loop2-test in
+    let first = c .before .before .before .before .before .before .before .if1 in
+    let judge-partition = c .before .before .before .judge-partition in
     let s = c .before .before .before .before .before .before .before .before .before .before .before .before .before .before .before .before .before .before .before .before .before .before .before .before .before .args in
-    let pt = c .before .before .before .before .before .before .before .before .before .before .before .before .before .before .table-of .result .now in
-    let s1 = c .before .before .before .before .before .before .before .before .before .before .before .before .table-of2 .result .now in
-    let n = c .before .before .before .before .before .before .before .before .before .before .before .least .result in
-    let e = c .before .before .before .before .before .before .before .before .before .before .before .before .before .before .before .before .before .before .before .before .before .words-of .ensures ∙ ap (page (s .b) (s .m .now)) (c .before .before .before .before .before .before .before .before .before .before .before .before .before .before .before .before .before .before .before .before .before .before .directory .ensures) in
-    let e1 = c .before .before .before .before .before .before .before .before .before .before .before .before .before .before .before .before .before .before .before .words-of2 .ensures ∙ ap (page (s .b) (s .m .now)) (c .before .before .before .before .before .before .before .before .before .before .before .before .before .before .before .before .before .before .before .before .shadow1 .ensures) in
-    rows-stop (s .b) (s .m .now) (λ v. childWords (mapping (s .b) (s .m .now) (s .d .0) v) (lent (s .b) (s .m .now) (s .d .0) v)) (λ t v. (W.child (children (s .b) (s .m .now)) (own (s .b) (s .m .now)) (partitionTest (s .b) (s .m .now)) (s .left)) t (pageOf (s .b) (mapping (s .b) (s .m .now) (s .d .0) v))) (s .d .0) (c .before .before .before .before .before .before .before .before .before .before .before .before .before .before .before .before .before .before .before .before .before .words-of .result .now) e (c .before .before .before .before .before .before .before .before .before .before .before .before .before .before .before .before .before .loop .i) (some (c .before .before .before .before .before .before .before .before .before .before .before .before .before .before .before .before .before .loop .seen)) (c .before .before .before .before .before .before .before .before .before .before .before .before .before .before .before .before .loop-test .taken) (children-row (s .b) (s .m .now) (s .d .0) (c .before .before .before .before .before .before .before .before .before .before .before .before .before .before .before .before .before .loop .i) e (c .before .before .before .before .before .before .before .before .before .before .before .before .before .before .before .before .loop-test .taken) (c .before .before .before .before .before .before .before .before .before .before .before .before .before .before .before .before .before .loop .inv .2 (c .before .before .before .before .before .before .before .before .before .before .before .before .before .before .before .before .loop-test .taken)) (c .before .before .before .before .before .before .before .before .before .before .before .before .before .before .table-of .ensures) e1 (c .before .before .before .before .before .before .before .before .before .before .before .before .before .read .ensures) (c .before .before .before .before .before .before .before .before .before .before .before .before .table-of2 .ensures) (W.child (children (s .b) (s .m .now)) (own (s .b) (s .m .now)) (partitionTest (s .b) (s .m .now)) (s .left)) (some (c .before .before .before .before .before .before .before .before .before .before .before .before .before .before .before .before .before .loop .seen)) ∙ c .before .before .before .before .before .before .before .before .before .loop2 .inv .3 ∙ picked-fails (λ k. childWords (getD pt k 0) (getD s1 k 0)) (λ t k. W.child (children (s .b) (s .m .now)) (own (s .b) (s .m .now)) (partitionTest (s .b) (s .m .now)) (s .left) t (pageOf (s .b) (getD pt k 0))) (pageWords (s .b)) n (child-short (s .b) (s .m .now) s1 (getD (c .before .before .before .before .before .before .before .before .before .before .before .before .before .before .before .before .before .before .before .before .before .words-of .result .now) (c .before .before .before .before .before .before .before .before .before .before .before .before .before .before .before .before .before .loop .i) 0) (c .before .before .before .before .before .before .before .before .before .before .before .before .before .before .table-of .ensures) (c .before .before .before .before .before .before .before .before .before .before .before .least .ensures)) (child-rest pt s1 (c .before .before .before .before .before .before .before .before .before .before .before .least .ensures)) (some (c .before .before .before .before .before .before .before .before .before .loop2 .seen)) (c .before .before .before .before .before .before .before .before .loop2-test .taken) (picked-is (λ k. childWords (getD pt k 0) (getD s1 k 0)) (λ t k. W.child (children (s .b) (s .m .now)) (own (s .b) (s .m .now)) (partitionTest (s .b) (s .m .now)) (s .left) t (pageOf (s .b) (getD pt k 0))) (c .before .before .before .before .before .before .before .before .before .loop2 .seen) (c .before .before .before .before .before .before .before .before .before .loop2 .j) (c .before .before .before .before .before .before .before .before .before .loop2 .inv .2 (c .before .before .before .before .before .before .before .before .loop2-test .taken)) ∙ ap (λ (x : ℕ). (W.child (children (s .b) (s .m .now)) (own (s .b) (s .m .now)) (partitionTest (s .b) (s .m .now)) (s .left)) (c .before .before .before .before .before .before .before .before .before .loop2 .seen) x) (sym (c .before .before .before .before .page-of .ensures)) ∙ child-next _ _ _ _ _ _ (pos-of-ne-zero (c .before .before .before .before .before .before .before .if1 .left)) ∙ failed _ (c .before .before .before .judge-partition .result) (c .before .before .before .judge-partition .last .1 .1 .0) (c .before .before .before .judge-partition .ensures) (not-true _ (c .if2 .taken)))) (c .before .before .before .before .before .before .before .before .before .before .before .before .before .before .before .before .before .loop .inv .3 (s .d .0) e e1)
+    let pt = table-of .result .now in
+    let s1 = table-of2 .result .now in
+    let n = least .result in
+    let e = words-of .ensures ∙ ap (page (s .b) (s .m .now)) (directory .ensures) in
+    let e1 = words-of2 .ensures ∙ ap (page (s .b) (s .m .now)) (shadow1 .ensures) in
+    rows-stop (s .b) (s .m .now) (λ v. childWords (mapping (s .b) (s .m .now) (s .d .0) v) (lent (s .b) (s .m .now) (s .d .0) v))
+    (λ t v. (W.child (children (s .b) (s .m .now)) (own (s .b) (s .m .now)) (partitionTest (s .b) (s .m .now)) (s .left)) t (pageOf (s .b) (mapping (s .b) (s .m .now) (s .d .0) v)))
+    (s .d .0) (words-of .result .now) e (p .i) (some (p .seen)) (test .taken)
+    (children-row (s .b) (s .m .now) (s .d .0) (p .i) e (test .taken) (p .inv .2 (test .taken)) (table-of .ensures) e1 (read .ensures) (table-of2 .ensures) (W.child (children (s .b) (s .m .now)) (own (s .b) (s .m .now)) (partitionTest (s .b) (s .m .now)) (s .left)) (some (p .seen)) ∙ q .inv .3 ∙ picked-fails (λ k. childWords (getD pt k 0) (getD s1 k 0)) (λ t k. W.child (children (s .b) (s .m .now)) (own (s .b) (s .m .now)) (partitionTest (s .b) (s .m .now)) (s .left) t (pageOf (s .b) (getD pt k 0))) (pageWords (s .b)) n (child-short (s .b) (s .m .now) s1 (getD (words-of .result .now) (p .i) 0) (table-of .ensures) (least .ensures)) (child-rest pt s1 (least .ensures)) (some (q .seen)) (loop2-test .taken) (picked-is (λ k. childWords (getD pt k 0) (getD s1 k 0)) (λ t k. W.child (children (s .b) (s .m .now)) (own (s .b) (s .m .now)) (partitionTest (s .b) (s .m .now)) (s .left) t (pageOf (s .b) (getD pt k 0))) (q .seen) (q .j) (q .inv .2 (loop2-test .taken)) ∙ ap (λ (x : ℕ). (W.child (children (s .b) (s .m .now)) (own (s .b) (s .m .now)) (partitionTest (s .b) (s .m .now)) (s .left)) (q .seen) x) (sym (c .before .before .before .before .page-of .ensures)) ∙ child-next _ _ _ _ _ _ (pos-of-ne-zero (first .left)) ∙ failed _ (judge-partition .result) (judge-partition .last .1 .1 .0) (judge-partition .ensures) (not-true _ (c .if2 .taken))))
+    (p .inv .3 (s .d .0) e e1)
 
 judge-children-add-next-child : (t : ℕ) → judge-children-lts.Need-add-next-child (judge-children-claims t)
     (judge-children-at t)
@@ -401,11 +454,16 @@ judge-children-loop2-less : (t : ℕ) → judge-children-lts.Need-loop2-less (ju
     judge-children-Inv-loop
     judge-children-μ-loop
 judge-children-loop2-less t c =
+    let table-of = c .before .before .before .before .before .before .before .before .before .before .before .before .before .before .before .table-of in
+    let table-of2 = c .before .before .before .before .before .before .before .before .before .before .before .before .before .table-of2 in
+    let least = c .before .before .before .before .before .before .before .before .before .before .before .before .least in
+    let q = c .before .before .before .before .before .before .before .before .before .before .loop2 in
+    let loop2-test = c .before .before .before .before .before .before .before .before .before .loop2-test in
     let s = c .before .before .before .before .before .before .before .before .before .before .before .before .before .before .before .before .before .before .before .before .before .before .before .before .before .before .args in
-    let pt = c .before .before .before .before .before .before .before .before .before .before .before .before .before .before .before .table-of .result .now in
-    let s1 = c .before .before .before .before .before .before .before .before .before .before .before .before .before .table-of2 .result .now in
-    let n = c .before .before .before .before .before .before .before .before .before .before .before .before .least .result in
-    omega (arith, c .before .before .before .before .before .before .before .before .before .loop2-test .taken, next-low (λ k. childWords (getD pt k 0) (getD s1 k 0)) n (c .before .before .before .before .before .before .before .before .before .before .loop2 .j + 1) (c .next-child2 .ensures))
+    let pt = table-of .result .now in
+    let s1 = table-of2 .result .now in
+    let n = least .result in
+    omega (arith, loop2-test .taken, next-low (λ k. childWords (getD pt k 0) (getD s1 k 0)) n (q .j + 1) (c .next-child2 .ensures))
 
 judge-children-loop2-again : (t : ℕ) → judge-children-lts.Need-loop2-again (judge-children-claims t)
     (judge-children-at t)
@@ -415,11 +473,30 @@ judge-children-loop2-again : (t : ℕ) → judge-children-lts.Need-loop2-again (
     judge-children-Inv-loop
     judge-children-μ-loop
 judge-children-loop2-again t c =
+    let words-of = c .before .before .before .before .before .before .before .before .before .before .before .before .before .before .before .before .before .before .before .before .before .before .words-of in
+    let p = c .before .before .before .before .before .before .before .before .before .before .before .before .before .before .before .before .before .before .loop in
+    let table-of = c .before .before .before .before .before .before .before .before .before .before .before .before .before .before .before .table-of in
+    let table-of2 = c .before .before .before .before .before .before .before .before .before .before .before .before .before .table-of2 in
+    let least = c .before .before .before .before .before .before .before .before .before .before .before .before .least in
+    let q = c .before .before .before .before .before .before .before .before .before .before .loop2 in
+    let loop2-test = c .before .before .before .before .before .before .before .before .before .loop2-test in
+    let first = c .before .before .before .before .before .before .before .before .if1 in
+    let page-of = c .before .before .before .before .before .page-of in
+    let judge-partition = c .before .before .before .before .judge-partition in
     let s = c .before .before .before .before .before .before .before .before .before .before .before .before .before .before .before .before .before .before .before .before .before .before .before .before .before .before .args in
-    let pt = c .before .before .before .before .before .before .before .before .before .before .before .before .before .before .before .table-of .result .now in
-    let s1 = c .before .before .before .before .before .before .before .before .before .before .before .before .before .table-of2 .result .now in
-    let n = c .before .before .before .before .before .before .before .before .before .before .before .before .least .result in
-    (c .before .before .before .before .judge-partition .kept .1 .1 .0 ∙ c .before .before .before .before .before .before .before .before .before .before .loop2 .inv .0, next-high (λ k. childWords (getD pt k 0) (getD s1 k 0)) n (c .before .before .before .before .before .before .before .before .before .before .loop2 .j + 1) (omega (arith, c .before .before .before .before .before .before .before .before .before .loop2-test .taken)) (c .next-child2 .ensures), next-here (λ k. childWords (getD pt k 0) (getD s1 k 0)) n (c .before .before .before .before .before .before .before .before .before .before .loop2 .j + 1) (omega (arith, c .before .before .before .before .before .before .before .before .before .loop2-test .taken)) (c .next-child2 .ensures), c .before .before .before .before .before .before .before .before .before .before .loop2 .inv .3 ∙ picked-next (λ k. childWords (getD pt k 0) (getD s1 k 0)) (λ t k. W.child (children (s .b) (s .m .now)) (own (s .b) (s .m .now)) (partitionTest (s .b) (s .m .now)) (s .left) t (pageOf (s .b) (getD pt k 0))) (pageWords (s .b)) n (child-short (s .b) (s .m .now) s1 (getD (c .before .before .before .before .before .before .before .before .before .before .before .before .before .before .before .before .before .before .before .before .before .before .words-of .result .now) (c .before .before .before .before .before .before .before .before .before .before .before .before .before .before .before .before .before .before .loop .i) 0) (c .before .before .before .before .before .before .before .before .before .before .before .before .before .before .before .table-of .ensures) (c .before .before .before .before .before .before .before .before .before .before .before .before .least .ensures)) (child-rest pt s1 (c .before .before .before .before .before .before .before .before .before .before .before .before .least .ensures)) (some (c .before .before .before .before .before .before .before .before .before .before .loop2 .seen)) (some (c .before .before .before .before .judge-partition .last .1 .1 .0)) (c .before .before .before .before .before .before .before .before .before .loop2-test .taken) (sym (picked-is (λ k. childWords (getD pt k 0) (getD s1 k 0)) (λ t k. W.child (children (s .b) (s .m .now)) (own (s .b) (s .m .now)) (partitionTest (s .b) (s .m .now)) (s .left) t (pageOf (s .b) (getD pt k 0))) (c .before .before .before .before .before .before .before .before .before .before .loop2 .seen) (c .before .before .before .before .before .before .before .before .before .before .loop2 .j) (c .before .before .before .before .before .before .before .before .before .before .loop2 .inv .2 (c .before .before .before .before .before .before .before .before .before .loop2-test .taken)) ∙ ap (λ (x : ℕ). (W.child (children (s .b) (s .m .now)) (own (s .b) (s .m .now)) (partitionTest (s .b) (s .m .now)) (s .left)) (c .before .before .before .before .before .before .before .before .before .before .loop2 .seen) x) (sym (c .before .before .before .before .before .page-of .ensures)) ∙ child-next _ _ _ _ _ _ (pos-of-ne-zero (c .before .before .before .before .before .before .before .before .if1 .left)) ∙ passed _ (c .before .before .before .before .judge-partition .result) _ (c .before .before .before .before .judge-partition .ensures) (not-false _ (c .before .if2 .left)))) (c .next-child2 .ensures))
+    let pt = table-of .result .now in
+    let s1 = table-of2 .result .now in
+    let n = least .result in (
+      judge-partition .kept .1 .1 .0 ∙ q .inv .0,
+      next-high (λ k. childWords (getD pt k 0) (getD s1 k 0)) n (q .j + 1) (omega (arith, loop2-test .taken)) (c .next-child2 .ensures),
+      next-here (λ k. childWords (getD pt k 0) (getD s1 k 0)) n (q .j + 1) (omega (arith, loop2-test .taken)) (c .next-child2 .ensures),
+      q .inv .3 ∙ picked-next (λ k. childWords (getD pt k 0) (getD s1 k 0))
+          (λ t k. W.child (children (s .b) (s .m .now)) (own (s .b) (s .m .now)) (partitionTest (s .b) (s .m .now)) (s .left) t (pageOf (s .b) (getD pt k 0)))
+          (pageWords (s .b)) n (child-short (s .b) (s .m .now) s1 (getD (words-of .result .now) (p .i) 0) (table-of .ensures) (least .ensures))
+          (child-rest pt s1 (least .ensures)) (some (q .seen)) (some (judge-partition .last .1 .1 .0)) (loop2-test .taken)
+          (sym (picked-is (λ k. childWords (getD pt k 0) (getD s1 k 0)) (λ t k. W.child (children (s .b) (s .m .now)) (own (s .b) (s .m .now)) (partitionTest (s .b) (s .m .now)) (s .left) t (pageOf (s .b) (getD pt k 0))) (q .seen) (q .j) (q .inv .2 (loop2-test .taken)) ∙ ap (λ (x : ℕ). (W.child (children (s .b) (s .m .now)) (own (s .b) (s .m .now)) (partitionTest (s .b) (s .m .now)) (s .left)) (q .seen) x) (sym (page-of .ensures)) ∙ child-next _ _ _ _ _ _ (pos-of-ne-zero (first .left)) ∙ passed _ (judge-partition .result) _ (judge-partition .ensures) (not-false _ (c .before .if2 .left))))
+          (c .next-child2 .ensures),
+    )
 
 judge-children-add-next-word : (t : ℕ) → judge-children-lts.Need-add-next-word (judge-children-claims t)
     (judge-children-at t)
@@ -446,7 +523,11 @@ judge-children-loop-less : (t : ℕ) → judge-children-lts.Need-loop-less (judg
     judge-children-μ-loop2
     judge-children-Inv-loop
     judge-children-μ-loop
-judge-children-loop-less t c = omega (arith, c .before .before .before .before .before .before .before .before .before .loop-test .taken, next-low (used (c .before .before .before .before .before .before .before .before .before .before .before .before .before .before .words-of .result .now)) (length (c .before .before .before .before .before .before .before .before .before .before .before .before .before .before .words-of .result .now)) (c .before .before .before .before .before .before .before .before .before .before .loop .i + 1) (c .next-word2 .ensures))
+judge-children-loop-less t c =
+    let words-of = c .before .before .before .before .before .before .before .before .before .before .before .before .before .before .words-of in
+    let p = c .before .before .before .before .before .before .before .before .before .before .loop in
+    let test = c .before .before .before .before .before .before .before .before .before .loop-test in
+    omega (arith, test .taken, next-low (used (words-of .result .now)) (length (words-of .result .now)) (p .i + 1) (c .next-word2 .ensures))
 
 judge-children-loop-again : (t : ℕ) → judge-children-lts.Need-loop-again (judge-children-claims t)
     (judge-children-at t)
@@ -456,12 +537,28 @@ judge-children-loop-again : (t : ℕ) → judge-children-lts.Need-loop-again (ju
     judge-children-Inv-loop
     judge-children-μ-loop
 judge-children-loop-again t c =
+    let words-of = c .before .before .before .before .before .before .before .before .before .before .before .before .before .before .words-of in
+    let p = c .before .before .before .before .before .before .before .before .before .before .loop in
+    let test = c .before .before .before .before .before .before .before .before .before .loop-test in
+    let table-of = c .before .before .before .before .before .before .before .table-of in
+    let read = c .before .before .before .before .before .before .read in
+    let table-of2 = c .before .before .before .before .before .table-of2 in
+    let least = c .before .before .before .before .least in
+    let q = c .before .before .loop2 in
     let s = c .before .before .before .before .before .before .before .before .before .before .before .before .before .before .before .before .before .before .args in
-    let pt = c .before .before .before .before .before .before .before .table-of .result .now in
-    let s1 = c .before .before .before .before .before .table-of2 .result .now in
-    let n = c .before .before .before .before .least .result in
-    let dir = c .before .before .before .before .before .before .before .before .before .before .before .before .before .before .words-of .result .now in
-    (c .before .before .loop2 .inv .0 ∙ c .before .before .before .before .before .before .before .before .before .before .loop .inv .0, next-high (used dir) (length dir) (c .before .before .before .before .before .before .before .before .before .before .loop .i + 1) (omega (arith, c .before .before .before .before .before .before .before .before .before .loop-test .taken)) (c .next-word2 .ensures), next-here (used dir) (length dir) (c .before .before .before .before .before .before .before .before .before .before .loop .i + 1) (omega (arith, c .before .before .before .before .before .before .before .before .before .loop-test .taken)) (c .next-word2 .ensures), λ d e e1. rows-next (s .b) (s .m .now) (childStep (s .b) (s .m .now) d (W.child (children (s .b) (s .m .now)) (own (s .b) (s .m .now)) (partitionTest (s .b) (s .m .now)) (s .left))) d dir e (some (c .before .before .before .before .before .before .before .before .before .before .loop .seen)) (some (c .before .before .loop2 .seen)) (c .before .before .before .before .before .before .before .before .before .loop-test .taken) (sym (children-row (s .b) (s .m .now) d (c .before .before .before .before .before .before .before .before .before .before .loop .i) e (c .before .before .before .before .before .before .before .before .before .loop-test .taken) (c .before .before .before .before .before .before .before .before .before .before .loop .inv .2 (c .before .before .before .before .before .before .before .before .before .loop-test .taken)) (c .before .before .before .before .before .before .before .table-of .ensures) e1 (c .before .before .before .before .before .before .read .ensures) (c .before .before .before .before .before .table-of2 .ensures) (W.child (children (s .b) (s .m .now)) (own (s .b) (s .m .now)) (partitionTest (s .b) (s .m .now)) (s .left)) (some (c .before .before .before .before .before .before .before .before .before .before .loop .seen)) ∙ c .before .before .loop2 .inv .3 ∙ picked-end (λ k. childWords (getD pt k 0) (getD s1 k 0)) (λ t k. W.child (children (s .b) (s .m .now)) (own (s .b) (s .m .now)) (partitionTest (s .b) (s .m .now)) (s .left) t (pageOf (s .b) (getD pt k 0))) (pageWords (s .b)) n (child-short (s .b) (s .m .now) s1 (getD (c .before .before .before .before .before .before .before .before .before .before .before .before .before .before .words-of .result .now) (c .before .before .before .before .before .before .before .before .before .before .loop .i) 0) (c .before .before .before .before .before .before .before .table-of .ensures) (c .before .before .before .before .least .ensures)) (child-rest pt s1 (c .before .before .before .before .least .ensures)) (some (c .before .before .loop2 .seen)) (c .before .loop2-test .left))) (c .next-word2 .ensures) (c .before .before .before .before .before .before .before .before .before .before .loop .inv .3 d e e1))
+    let pt = table-of .result .now in
+    let s1 = table-of2 .result .now in
+    let n = least .result in
+    let dir = words-of .result .now in (
+      q .inv .0 ∙ p .inv .0,
+      next-high (used dir) (length dir) (p .i + 1) (omega (arith, test .taken)) (c .next-word2 .ensures),
+      next-here (used dir) (length dir) (p .i + 1) (omega (arith, test .taken)) (c .next-word2 .ensures),
+      λ d e e1. rows-next (s .b) (s .m .now)
+          (childStep (s .b) (s .m .now) d (W.child (children (s .b) (s .m .now)) (own (s .b) (s .m .now)) (partitionTest (s .b) (s .m .now)) (s .left))) d dir e
+          (some (p .seen)) (some (q .seen)) (test .taken)
+          (sym (children-row (s .b) (s .m .now) d (p .i) e (test .taken) (p .inv .2 (test .taken)) (table-of .ensures) e1 (read .ensures) (table-of2 .ensures) (W.child (children (s .b) (s .m .now)) (own (s .b) (s .m .now)) (partitionTest (s .b) (s .m .now)) (s .left)) (some (p .seen)) ∙ q .inv .3 ∙ picked-end (λ k. childWords (getD pt k 0) (getD s1 k 0)) (λ t k. W.child (children (s .b) (s .m .now)) (own (s .b) (s .m .now)) (partitionTest (s .b) (s .m .now)) (s .left) t (pageOf (s .b) (getD pt k 0))) (pageWords (s .b)) n (child-short (s .b) (s .m .now) s1 (getD (words-of .result .now) (p .i) 0) (table-of .ensures) (least .ensures)) (child-rest pt s1 (least .ensures)) (some (q .seen)) (c .before .loop2-test .left)))
+          (c .next-word2 .ensures) (p .inv .3 d e e1),
+    )
 
 judge-children-same-length-3 : (t : ℕ) → judge-children-lts.Need-same-length-3 (judge-children-claims t)
     (judge-children-at t)
@@ -480,10 +577,14 @@ judge-children-returns-3 : (t : ℕ) → judge-children-lts.Need-returns-3 (judg
     judge-children-Inv-loop
     judge-children-μ-loop
 judge-children-returns-3 t c =
+    let directory = c .before .before .before .before .before .before .directory in
+    let words-of = c .before .before .before .before .before .words-of in
     let s = c .before .before .before .before .before .before .before .before .before .args in
-    let e = c .before .before .before .before .before .words-of .ensures ∙ ap (page (s .b) (s .m .now)) (c .before .before .before .before .before .before .directory .ensures) in
+    let e = words-of .ensures ∙ ap (page (s .b) (s .m .now)) (directory .ensures) in
     let e1 = c .before .before .before .words-of2 .ensures ∙ ap (page (s .b) (s .m .now)) (c .before .before .before .before .shadow1 .ensures) in
-    rows-end (s .b) (s .m .now) (childStep (s .b) (s .m .now) (s .d .0) (W.child (children (s .b) (s .m .now)) (own (s .b) (s .m .now)) (partitionTest (s .b) (s .m .now)) (s .left))) (s .d .0) (c .before .before .before .before .before .words-of .result .now) e (some (c .before .loop .seen)) (c .loop-test .left) (c .before .loop .inv .3 (s .d .0) e e1)
+    rows-end (s .b) (s .m .now)
+    (childStep (s .b) (s .m .now) (s .d .0) (W.child (children (s .b) (s .m .now)) (own (s .b) (s .m .now)) (partitionTest (s .b) (s .m .now)) (s .left))) (s .d .0)
+    (words-of .result .now) e (some (c .before .loop .seen)) (c .loop-test .left) (c .before .loop .inv .3 (s .d .0) e e1)
 
 judge-partition-forms-test-requires : (t : ℕ) → judge-partition-lts.Need-forms-test-requires (judge-partition-claims t) (judge-partition-at t) judge-partition.Post
 judge-partition-forms-test-requires t c κs = search needs
@@ -495,16 +596,19 @@ judge-partition-returns t c =
 
 judge-partition-mark-kernel-requires : (t : ℕ) → judge-partition-lts.Need-mark-kernel-requires (judge-partition-claims t) (judge-partition-at t) judge-partition.Post
 judge-partition-mark-kernel-requires t c κs =
+    let h = c .before .before .before .before .before .pre in
     let s = c .before .before .before .before .before .args in
-    (c .before .before .before .before .before .pre .1, few (s .b) (s .m .now) (s .d .0) (c .before .before .forms-test .ensures) (c .before .if1 .left))
+    (h .1, few (s .b) (s .m .now) (s .d .0) (c .before .before .forms-test .ensures) (c .before .if1 .left))
 
 judge-partition-same-length : (t : ℕ) → judge-partition-lts.Need-same-length (judge-partition-claims t) (judge-partition-at t) judge-partition.Post
 judge-partition-same-length t c = search needs
 
 judge-partition-returns-2 : (t : ℕ) → judge-partition-lts.Need-returns-2 (judge-partition-claims t) (judge-partition-at t) judge-partition.Post
 judge-partition-returns-2 t c =
+    let mark-kernel = c .before .before .before .mark-kernel in
     let s = c .before .before .before .before .before .before .before .before .before .args in
-    judge-unmarked _ _ _ _ _ _ (own-no (s .b) (s .m .now) (s .d .0) (s .seen .now) (failed _ (c .before .before .before .mark-kernel .result) (c .before .before .before .mark-kernel .last .1 .1 .0) (c .before .before .before .mark-kernel .ensures) (not-true _ (c .if2 .taken))))
+    judge-unmarked _ _ _ _ _ _
+    (own-no (s .b) (s .m .now) (s .d .0) (s .seen .now) (failed _ (mark-kernel .result) (mark-kernel .last .1 .1 .0) (mark-kernel .ensures) (not-true _ (c .if2 .taken))))
 
 judge-partition-tally-requires : (t : ℕ) → judge-partition-lts.Need-tally-requires (judge-partition-claims t) (judge-partition-at t) judge-partition.Post
 judge-partition-tally-requires t c κs = search needs
@@ -514,10 +618,13 @@ judge-partition-same-length-2 t c = search needs
 
 judge-partition-returns-3 : (t : ℕ) → judge-partition-lts.Need-returns-3 (judge-partition-claims t) (judge-partition-at t) judge-partition.Post
 judge-partition-returns-3 t c =
+    let mark-kernel = c .before .before .before .before .before .before .before .before .before .mark-kernel in
+    let second = c .before .before .before .before .before .before .if2 in
+    let tally = c .before .before .before .before .tally in
     let s = c .before .before .before .before .before .before .before .before .before .before .before .before .before .before .before .args in
-    let kernel = passed _ (c .before .before .before .before .before .before .before .before .before .mark-kernel .result) (c .before .before .before .before .before .before .before .before .before .mark-kernel .last .1 .1 .0) (c .before .before .before .before .before .before .before .before .before .mark-kernel .ensures) (not-false _ (c .before .before .before .before .before .before .if2 .left)) in
-    let hands = failed _ (c .before .before .before .before .tally .result .marked) (c .before .before .before .before .tally .last .1 .1 .0) (c .before .before .before .before .tally .ensures .0) (not-true _ (c .if3 .taken)) in
-    judge-unmarked _ _ _ _ _ _ (own-yes (s .b) (s .m .now) (s .d .0) (s .seen .now) (c .before .before .before .before .before .before .before .before .before .mark-kernel .last .1 .1 .0) kernel ∙ hands)
+    let kernel = passed _ (mark-kernel .result) (mark-kernel .last .1 .1 .0) (mark-kernel .ensures) (not-false _ (second .left)) in
+    let hands = failed _ (tally .result .marked) (tally .last .1 .1 .0) (tally .ensures .0) (not-true _ (c .if3 .taken)) in
+    judge-unmarked _ _ _ _ _ _ (own-yes (s .b) (s .m .now) (s .d .0) (s .seen .now) (mark-kernel .last .1 .1 .0) kernel ∙ hands)
 
 judge-partition-tables-test-requires : (t : ℕ) → judge-partition-lts.Need-tables-test-requires (judge-partition-claims t) (judge-partition-at t) judge-partition.Post
 judge-partition-tables-test-requires t c κs = search needs
@@ -527,20 +634,32 @@ judge-partition-same-length-3 t c = search needs
 
 judge-partition-returns-4 : (t : ℕ) → judge-partition-lts.Need-returns-4 (judge-partition-claims t) (judge-partition-at t) judge-partition.Post
 judge-partition-returns-4 t c =
+    let forms-test = c .before .before .before .before .before .before .before .before .before .before .before .before .before .before .forms-test in
+    let first = c .before .before .before .before .before .before .before .before .before .before .before .before .before .if1 in
+    let tally = c .before .before .before .before .before .before .tally in
     let s = c .before .before .before .before .before .before .before .before .before .before .before .before .before .before .before .before .before .args in
-    let counts = c .before .before .before .before .before .before .tally .ensures .1 (not-false _ (c .before .before .if3 .left)) in
-    judge-bad _ _ _ _ _ _ (no (tested (s .b) (s .m .now) (s .d .0) (c .before .before .before .before .before .before .before .before .before .before .before .before .before .before .forms-test .ensures) (c .before .before .before .before .before .before .before .before .before .before .before .before .before .if1 .left) counts (c .before .tables-test .ensures)) (c .if4 .taken))
+    let counts = tally .ensures .1 (not-false _ (c .before .before .if3 .left)) in
+    judge-bad _ _ _ _ _ _ (no (tested (s .b) (s .m .now) (s .d .0) (forms-test .ensures) (first .left) counts (c .before .tables-test .ensures)) (c .if4 .taken))
 
 judge-partition-same-length-4 : (t : ℕ) → judge-partition-lts.Need-same-length-4 (judge-partition-claims t) (judge-partition-at t) judge-partition.Post
 judge-partition-same-length-4 t c = search needs
 
 judge-partition-returns-5 : (t : ℕ) → judge-partition-lts.Need-returns-5 (judge-partition-claims t) (judge-partition-at t) judge-partition.Post
 judge-partition-returns-5 t c =
+    let forms-test = c .before .before .before .before .before .before .before .before .before .before .before .before .before .before .before .before .forms-test in
+    let first = c .before .before .before .before .before .before .before .before .before .before .before .before .before .before .before .if1 in
+    let mark-kernel = c .before .before .before .before .before .before .before .before .before .before .before .before .before .mark-kernel in
+    let second = c .before .before .before .before .before .before .before .before .before .before .if2 in
+    let tally = c .before .before .before .before .before .before .before .before .tally in
+    let third = c .before .before .before .before .if3 in
     let s = c .before .before .before .before .before .before .before .before .before .before .before .before .before .before .before .before .before .before .before .args in
-    let kernel = passed _ (c .before .before .before .before .before .before .before .before .before .before .before .before .before .mark-kernel .result) (c .before .before .before .before .before .before .before .before .before .before .before .before .before .mark-kernel .last .1 .1 .0) (c .before .before .before .before .before .before .before .before .before .before .before .before .before .mark-kernel .ensures) (not-false _ (c .before .before .before .before .before .before .before .before .before .before .if2 .left)) in
-    let hands = passed _ (c .before .before .before .before .before .before .before .before .tally .result .marked) (c .before .before .before .before .before .before .before .before .tally .last .1 .1 .0) (c .before .before .before .before .before .before .before .before .tally .ensures .0) (not-false _ (c .before .before .before .before .if3 .left)) in
-    let counts = c .before .before .before .before .before .before .before .before .tally .ensures .1 (not-false _ (c .before .before .before .before .if3 .left)) in
-    judge-go _ _ _ _ _ _ (c .before .before .before .before .before .before .before .before .tally .last .1 .1 .0) (yes (tested (s .b) (s .m .now) (s .d .0) (c .before .before .before .before .before .before .before .before .before .before .before .before .before .before .before .before .forms-test .ensures) (c .before .before .before .before .before .before .before .before .before .before .before .before .before .before .before .if1 .left) counts (c .before .before .before .tables-test .ensures)) (c .before .before .if4 .left)) (own-yes (s .b) (s .m .now) (s .d .0) (s .seen .now) (c .before .before .before .before .before .before .before .before .before .before .before .before .before .mark-kernel .last .1 .1 .0) kernel ∙ hands) ∙ no-child (s .b) (s .m .now) _ (c .before .before .before .before .before .before .before .before .tally .last .1 .1 .0) (s .d .0) (counts .2) (c .if5 .taken)
+    let kernel = passed _ (mark-kernel .result) (mark-kernel .last .1 .1 .0) (mark-kernel .ensures) (not-false _ (second .left)) in
+    let hands = passed _ (tally .result .marked) (tally .last .1 .1 .0) (tally .ensures .0) (not-false _ (third .left)) in
+    let counts = tally .ensures .1 (not-false _ (third .left)) in
+    judge-go _ _ _ _ _ _ (tally .last .1 .1 .0)
+    (yes (tested (s .b) (s .m .now) (s .d .0) (forms-test .ensures) (first .left) counts (c .before .before .before .tables-test .ensures)) (c .before .before .if4 .left))
+    (own-yes (s .b) (s .m .now) (s .d .0) (s .seen .now) (mark-kernel .last .1 .1 .0) kernel ∙ hands) ∙ no-child (s .b) (s .m .now) _ (tally .last .1 .1 .0) (s .d .0)
+    (counts .2) (c .if5 .taken)
 
 judge-partition-judge-children-requires : (t : ℕ) → judge-partition-lts.Need-judge-children-requires (judge-partition-claims t) (judge-partition-at t) judge-partition.Post
 judge-partition-judge-children-requires t c κs = search needs
@@ -550,11 +669,21 @@ judge-partition-same-length-5 t c = search needs
 
 judge-partition-returns-6 : (t : ℕ) → judge-partition-lts.Need-returns-6 (judge-partition-claims t) (judge-partition-at t) judge-partition.Post
 judge-partition-returns-6 t c =
+    let forms-test = c .before .before .before .before .before .before .before .before .before .before .before .before .before .before .before .before .before .before .before .before .forms-test in
+    let first = c .before .before .before .before .before .before .before .before .before .before .before .before .before .before .before .before .before .before .before .if1 in
+    let mark-kernel = c .before .before .before .before .before .before .before .before .before .before .before .before .before .before .before .before .before .mark-kernel in
+    let second = c .before .before .before .before .before .before .before .before .before .before .before .before .before .before .if2 in
+    let tally = c .before .before .before .before .before .before .before .before .before .before .before .before .tally in
+    let third = c .before .before .before .before .before .before .before .before .if3 in
+    let tables-test = c .before .before .before .before .before .before .before .tables-test in
+    let fourth = c .before .before .before .before .before .before .if4 in
     let s = c .before .before .before .before .before .before .before .before .before .before .before .before .before .before .before .before .before .before .before .before .before .before .before .args in
-    let kernel = passed _ (c .before .before .before .before .before .before .before .before .before .before .before .before .before .before .before .before .before .mark-kernel .result) (c .before .before .before .before .before .before .before .before .before .before .before .before .before .before .before .before .before .mark-kernel .last .1 .1 .0) (c .before .before .before .before .before .before .before .before .before .before .before .before .before .before .before .before .before .mark-kernel .ensures) (not-false _ (c .before .before .before .before .before .before .before .before .before .before .before .before .before .before .if2 .left)) in
-    let hands = passed _ (c .before .before .before .before .before .before .before .before .before .before .before .before .tally .result .marked) (c .before .before .before .before .before .before .before .before .before .before .before .before .tally .last .1 .1 .0) (c .before .before .before .before .before .before .before .before .before .before .before .before .tally .ensures .0) (not-false _ (c .before .before .before .before .before .before .before .before .if3 .left)) in
-    let counts = c .before .before .before .before .before .before .before .before .before .before .before .before .tally .ensures .1 (not-false _ (c .before .before .before .before .before .before .before .before .if3 .left)) in
-    judge-go _ _ _ _ _ _ (c .before .before .before .before .before .before .before .before .before .before .before .before .tally .last .1 .1 .0) (yes (tested (s .b) (s .m .now) (s .d .0) (c .before .before .before .before .before .before .before .before .before .before .before .before .before .before .before .before .before .before .before .before .forms-test .ensures) (c .before .before .before .before .before .before .before .before .before .before .before .before .before .before .before .before .before .before .before .if1 .left) counts (c .before .before .before .before .before .before .before .tables-test .ensures)) (c .before .before .before .before .before .before .if4 .left)) (own-yes (s .b) (s .m .now) (s .d .0) (s .seen .now) (c .before .before .before .before .before .before .before .before .before .before .before .before .before .before .before .before .before .mark-kernel .last .1 .1 .0) kernel ∙ hands) ∙ c .before .before .judge-children .ensures
+    let kernel = passed _ (mark-kernel .result) (mark-kernel .last .1 .1 .0) (mark-kernel .ensures) (not-false _ (second .left)) in
+    let hands = passed _ (tally .result .marked) (tally .last .1 .1 .0) (tally .ensures .0) (not-false _ (third .left)) in
+    let counts = tally .ensures .1 (not-false _ (third .left)) in
+    judge-go _ _ _ _ _ _ (tally .last .1 .1 .0)
+    (yes (tested (s .b) (s .m .now) (s .d .0) (forms-test .ensures) (first .left) counts (tables-test .ensures)) (fourth .left))
+    (own-yes (s .b) (s .m .now) (s .d .0) (s .seen .now) (mark-kernel .last .1 .1 .0) kernel ∙ hands) ∙ c .before .before .judge-children .ensures
 
 pub +judge-children+judge-partition-spec : {M : Type 1} → statement M
 +judge-children+judge-partition-spec =

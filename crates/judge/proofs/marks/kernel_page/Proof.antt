@@ -20,7 +20,9 @@ named-requires : tie.Need-named-requires
 named-requires c κs = search needs
 
 returns-2 : tie.Need-returns-2
-returns-2 c = c .named .ensures ∙ kernel-five (c .before .before .before .before .args .b) (c .before .before .before .before .args .m .now) (c .before .before .before .before .args .d .0) (c .before .before .before .before .args .j) (c .before .before .if1 .left) (c .before .if2 .taken)
+returns-2 c =
+    let s = c .before .before .before .before .args in
+    c .named .ensures ∙ kernel-five (s .b) (s .m .now) (s .d .0) (s .j) (c .before .before .if1 .left) (c .before .if2 .taken)
 
 list-pair-requires : tie.Need-list-pair-requires
 list-pair-requires c κs = search needs
@@ -29,7 +31,10 @@ page-of-requires : tie.Need-page-of-requires
 page-of-requires c κs = search needs
 
 returns-3 : tie.Need-returns-3
-returns-3 c = c .page-of .ensures ∙ ap (pageOf (c .before .before .before .before .before .args .b)) (c .before .list-pair .ensures .1) ∙ kernel-listed (c .before .before .before .before .before .args .b) (c .before .before .before .before .before .args .m .now) (c .before .before .before .before .before .args .d .0) (c .before .before .before .before .before .args .j) (omega arith) (c .before .before .before .before .before .pre .1)
+returns-3 c =
+    let s = c .before .before .before .before .before .args in
+    let h = c .before .before .before .before .before .pre in
+    c .page-of .ensures ∙ ap (pageOf (s .b)) (c .before .list-pair .ensures .1) ∙ kernel-listed (s .b) (s .m .now) (s .d .0) (s .j) (omega arith) (h .1)
 
 pub kernel-page-spec : {M : Type 1} → statement M
 kernel-page-spec =

@@ -17,7 +17,9 @@ returns-2 : tie.Need-returns-2
 returns-2 c = rw (ne-eqb (c .before .before .before .before .args .w) 0 (c .before .before .if1 .left), unequal (c .before .accessible .ensures) refl (c .if2 .taken)) refl
 
 returns-3 : tie.Need-returns-3
-returns-3 c = rw (ne-eqb (c .before .before .before .before .before .args .w) 0 (c .before .before .before .if1 .left), equal (c .before .before .accessible .ensures) refl (c .before .if2 .left), ne-eqb (c .before .before .before .before .before .args .x) 0 (c .if3 .taken)) refl
+returns-3 c =
+    let s = c .before .before .before .before .before .args in
+    rw (ne-eqb (s .w) 0 (c .before .before .before .if1 .left), equal (c .before .before .accessible .ensures) refl (c .before .if2 .left), ne-eqb (s .x) 0 (c .if3 .taken)) refl
 
 page-of-requires : tie.Need-page-of-requires
 page-of-requires c κs = search needs
@@ -29,7 +31,14 @@ same-length : tie.Need-same-length
 same-length c = search needs
 
 returns-4 : tie.Need-returns-4
-returns-4 c = rw (ne-eqb (c .before .before .before .before .before .before .before .before .before .before .args .w) 0 (c .before .before .before .before .before .before .before .before .if1 .left), equal (c .before .before .before .before .before .before .before .accessible .ensures) refl (c .before .before .before .before .before .before .if2 .left), eq-eqb (c .before .before .before .before .before .before .before .before .before .before .args .x) 0 (c .before .before .before .before .before .if3 .left)) (ap (mark (c .before .before .before .before .before .before .before .before .before .before .args .seen .now)) (sym (c .before .before .before .page-of .ensures)) ∙ c .before .before .mark-page .ensures)
+returns-4 c =
+    let s = c .before .before .before .before .before .before .before .before .before .before .args in
+    let first = c .before .before .before .before .before .before .before .before .if1 in
+    let accessible = c .before .before .before .before .before .before .before .accessible in
+    let second = c .before .before .before .before .before .before .if2 in
+    let third = c .before .before .before .before .before .if3 in
+    rw (ne-eqb (s .w) 0 (first .left), equal (accessible .ensures) refl (second .left), eq-eqb (s .x) 0 (third .left))
+    (ap (mark (s .seen .now)) (sym (c .before .before .before .page-of .ensures)) ∙ c .before .before .mark-page .ensures)
 
 pub mark-hand-spec : {M : Type 1} → statement M
 mark-hand-spec =

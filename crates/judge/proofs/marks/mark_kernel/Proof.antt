@@ -41,7 +41,14 @@ same-length : tie.Need-same-length Inv-loop μ-loop
 same-length c = search needs
 
 returns : tie.Need-returns Inv-loop μ-loop
-returns c = mark-failed (fivePages (c .before .before .before .before .before .before .before .before .before .before .before .args .b) (c .before .before .before .before .before .before .before .before .before .before .before .args .m .now) (c .before .before .before .before .before .before .before .before .before .before .before .args .d .0) ++ listedPages (c .before .before .before .before .before .before .before .before .before .before .before .args .b) (c .before .before .before .before .before .before .before .before .before .before .before .args .m .now) (c .before .before .before .before .before .before .before .before .before .before .before .args .d .0)) (c .before .before .before .before .before .before .before .loop .j) (c .before .before .before .before .before .before .before .loop .seen) (c .before .before .before .mark-page .result) (c .before .before .before .mark-page .last .0) (omega (arith, c .before .before .before .before .before .before .before .before .threes .ensures, front (c .before .before .before .before .before .before .before .before .before .before .before .args .b) (c .before .before .before .before .before .before .before .before .before .before .before .args .m .now) (c .before .before .before .before .before .before .before .before .before .before .before .args .d .0))) (c .before .before .before .before .kernel-page .ensures) (c .before .before .before .mark-page .ensures) (c .if1 .taken) (c .before .before .before .before .before .before .before .loop .inv .1)
+returns c =
+    let s = c .before .before .before .before .before .before .before .before .before .before .before .args in
+    let threes = c .before .before .before .before .before .before .before .before .threes in
+    let p = c .before .before .before .before .before .before .before .loop in
+    let mark-page = c .before .before .before .mark-page in
+    mark-failed (fivePages (s .b) (s .m .now) (s .d .0) ++ listedPages (s .b) (s .m .now) (s .d .0)) (p .j) (p .seen) (mark-page .result) (mark-page .last .0)
+    (omega (arith, threes .ensures, front (s .b) (s .m .now) (s .d .0))) (c .before .before .before .before .kernel-page .ensures) (mark-page .ensures) (c .if1 .taken)
+    (p .inv .1)
 
 add-j : tie.Need-add-j Inv-loop μ-loop
 add-j c = search needs
@@ -50,13 +57,25 @@ loop-less : tie.Need-loop-less Inv-loop μ-loop
 loop-less c = search needs
 
 loop-again : tie.Need-loop-again Inv-loop μ-loop
-loop-again c = (c .before .before .before .mark-page .kept .0 ∙ c .before .before .before .before .before .before .before .loop .inv .0, mark-went (fivePages (c .before .before .before .before .before .before .before .before .before .before .before .args .b) (c .before .before .before .before .before .before .before .before .before .before .before .args .m .now) (c .before .before .before .before .before .before .before .before .before .before .before .args .d .0) ++ listedPages (c .before .before .before .before .before .before .before .before .before .before .before .args .b) (c .before .before .before .before .before .before .before .before .before .before .before .args .m .now) (c .before .before .before .before .before .before .before .before .before .before .before .args .d .0)) (c .before .before .before .before .before .before .before .loop .j) (c .before .before .before .before .before .before .before .loop .seen) (c .before .before .before .mark-page .result) (c .before .before .before .mark-page .last .0) (omega (arith, c .before .before .before .before .before .before .before .before .threes .ensures, front (c .before .before .before .before .before .before .before .before .before .before .before .args .b) (c .before .before .before .before .before .before .before .before .before .before .before .args .m .now) (c .before .before .before .before .before .before .before .before .before .before .before .args .d .0))) (c .before .before .before .before .kernel-page .ensures) (c .before .before .before .mark-page .ensures) (c .if1 .left) (c .before .before .before .before .before .before .before .loop .inv .1))
+loop-again c =
+    let s = c .before .before .before .before .before .before .before .before .before .before .before .args in
+    let threes = c .before .before .before .before .before .before .before .before .threes in
+    let p = c .before .before .before .before .before .before .before .loop in
+    let mark-page = c .before .before .before .mark-page in (
+      mark-page .kept .0 ∙ p .inv .0,
+      mark-went (fivePages (s .b) (s .m .now) (s .d .0) ++ listedPages (s .b) (s .m .now) (s .d .0)) (p .j) (p .seen) (mark-page .result) (mark-page .last .0)
+          (omega (arith, threes .ensures, front (s .b) (s .m .now) (s .d .0))) (c .before .before .before .before .kernel-page .ensures) (mark-page .ensures) (c .if1 .left)
+          (p .inv .1),
+    )
 
 same-length-2 : tie.Need-same-length-2 Inv-loop μ-loop
 same-length-2 c = search needs
 
 returns-2 : tie.Need-returns-2 Inv-loop μ-loop
-returns-2 c = mark-end (fivePages (c .before .before .before .before .before .args .b) (c .before .before .before .before .before .args .m .now) (c .before .before .before .before .before .args .d .0) ++ listedPages (c .before .before .before .before .before .args .b) (c .before .before .before .before .before .args .m .now) (c .before .before .before .before .before .args .d .0)) (c .before .loop .j) (c .before .loop .seen) (omega (arith, c .before .before .threes .ensures, front (c .before .before .before .before .before .args .b) (c .before .before .before .before .before .args .m .now) (c .before .before .before .before .before .args .d .0))) (c .before .loop .inv .1)
+returns-2 c =
+    let s = c .before .before .before .before .before .args in
+    mark-end (fivePages (s .b) (s .m .now) (s .d .0) ++ listedPages (s .b) (s .m .now) (s .d .0)) (c .before .loop .j) (c .before .loop .seen)
+    (omega (arith, c .before .before .threes .ensures, front (s .b) (s .m .now) (s .d .0))) (c .before .loop .inv .1)
 
 pub mark-kernel-spec : {M : Type 1} → statement M
 mark-kernel-spec =

@@ -21,7 +21,10 @@ lent-count-requires : tie.Need-lent-count-requires
 lent-count-requires c κs = search needs
 
 returns-2 : tie.Need-returns-2
-returns-2 c = rw (unequal refl refl (c .before .before .before .if1 .left)) (same-eqb (c .lent-count .ensures ∙ ap (λ (p : ℕ). lentCount (c .before .before .before .before .before .before .args .b) (c .before .before .before .before .before .before .args .m .now) p (c .before .read-word .result)) (c .before .before .parent .ensures) ∙ ap (lentCount (c .before .before .before .before .before .before .args .b) (c .before .before .before .before .before .before .args .m .now) (parent (c .before .before .before .before .before .before .args .b) (c .before .before .before .before .before .before .args .m .now) (c .before .before .before .before .before .before .args .d .0))) (c .before .read-word .ensures)) refl)
+returns-2 c =
+    let s = c .before .before .before .before .before .before .args in
+    rw (unequal refl refl (c .before .before .before .if1 .left))
+    (same-eqb (c .lent-count .ensures ∙ ap (λ (p : ℕ). lentCount (s .b) (s .m .now) p (c .before .read-word .result)) (c .before .before .parent .ensures) ∙ ap (lentCount (s .b) (s .m .now) (parent (s .b) (s .m .now) (s .d .0))) (c .before .read-word .ensures)) refl)
 
 pub lent-test-spec : {M : Type 1} → statement M
 lent-test-spec =

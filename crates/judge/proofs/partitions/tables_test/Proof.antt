@@ -24,7 +24,10 @@ cells-test-requires : tie.Need-cells-test-requires
 cells-test-requires c κs = search needs
 
 returns-4 : tie.Need-returns-4
-returns-4 c = rw (equal (c .before .before .before .before .before .mapping .ensures) refl (c .before .before .before .before .if1 .left), equal refl refl (c .before .before .before .if2 .left), yes (c .before .before .lent-test .ensures) (c .before .if3 .left)) (c .cells-test .ensures)
+returns-4 c =
+    let mapping = c .before .before .before .before .before .mapping in
+    rw (equal (mapping .ensures) refl (c .before .before .before .before .if1 .left), equal refl refl (c .before .before .before .if2 .left), yes (c .before .before .lent-test .ensures) (c .before .if3 .left))
+    (c .cells-test .ensures)
 
 pub tables-test-spec : {M : Type 1} → statement M
 tables-test-spec =

@@ -14,7 +14,9 @@ returns-2 : tie.Need-returns-2
 returns-2 c = rw (equal refl refl (c .before .before .if1 .left), lt-leb 1 (c .before .before .before .args .v .0) (omega arith))
 
 returns-3 : tie.Need-returns-3
-returns-3 c = rw (equal refl refl (c .before .before .before .before .if1 .left), le-leb 1 (c .before .before .before .before .before .args .v .0) (omega arith), lt-leb (c .before .before .before .before .before .args .v .0) (c .before .before .before .before .before .args .flat) (omega arith))
+returns-3 c =
+    let s = c .before .before .before .before .before .args in
+    rw (equal refl refl (c .before .before .before .before .if1 .left), le-leb 1 (s .v .0) (omega arith), lt-leb (s .v .0) (s .flat) (omega arith))
 
 page-of-requires : tie.Need-page-of-requires
 page-of-requires c κs = search needs
@@ -23,13 +25,20 @@ add-if4 : tie.Need-add-if4
 add-if4 c = search needs
 
 returns-4 : tie.Need-returns-4
-returns-4 c = rw (equal refl refl (c .before .before .before .before .before .before .before .before .if1 .left), le-leb 1 (c .before .before .before .before .before .before .before .before .before .args .v .0) (omega arith), le-leb (c .before .before .before .before .before .before .before .before .before .args .v .0) (c .before .before .before .before .before .before .before .before .before .args .flat) (omega arith), unequal (c .before .before .before .page-of .ensures) refl (c .if4 .taken))
+returns-4 c =
+    let s = c .before .before .before .before .before .before .before .before .before .args in
+    let first = c .before .before .before .before .before .before .before .before .if1 in
+    rw (equal refl refl (first .left), le-leb 1 (s .v .0) (omega arith), le-leb (s .v .0) (s .flat) (omega arith), unequal (c .before .before .before .page-of .ensures) refl (c .if4 .taken))
 
 rights-requires : tie.Need-rights-requires
 rights-requires c κs = search needs
 
 returns-5 : tie.Need-returns-5
-returns-5 c = rw (equal refl refl (c .before .before .before .before .before .before .before .before .before .if1 .left), le-leb 1 (c .before .before .before .before .before .before .before .before .before .before .args .v .0) (omega arith), le-leb (c .before .before .before .before .before .before .before .before .before .before .args .v .0) (c .before .before .before .before .before .before .before .before .before .before .args .flat) (omega arith), equal (c .before .before .before .before .page-of .ensures) refl (c .before .if4 .left)) (same-eqb (c .rights .ensures) refl)
+returns-5 c =
+    let s = c .before .before .before .before .before .before .before .before .before .before .args in
+    let first = c .before .before .before .before .before .before .before .before .before .if1 in
+    rw (equal refl refl (first .left), le-leb 1 (s .v .0) (omega arith), le-leb (s .v .0) (s .flat) (omega arith), equal (c .before .before .before .before .page-of .ensures) refl (c .before .if4 .left))
+    (same-eqb (c .rights .ensures) refl)
 
 pub root-cell-spec : {M : Type 1} → statement M
 root-cell-spec =

@@ -58,9 +58,15 @@ next-word-requires c κs = search needs
 
 loop-holds : tie.Need-loop-holds Inv-loop μ-loop
 loop-holds c =
+    let words-of = c .before .before .before .words-of in
     let s = c .before .before .before .before .before .before .before .before .before .args in
-    let dir = c .before .before .before .words-of .result .now in
-    (next-high (used dir) (length dir) 0 (omega arith) (c .next-word .ensures), next-here (used dir) (length dir) 0 (omega arith) (c .next-word .ensures), rows-first (s .b) (s .m .now) (asking (rootMapTest (s .b) (s .m .now))) 1 dir (c .before .before .before .words-of .ensures ∙ ap (page (s .b) (s .m .now)) (c .before .before .before .before .directory .ensures)) true (root-run (s .b) (s .m .now) 1) (c .next-word .ensures))
+    let dir = words-of .result .now in (
+      next-high (used dir) (length dir) 0 (omega arith) (c .next-word .ensures),
+      next-here (used dir) (length dir) 0 (omega arith) (c .next-word .ensures),
+      rows-first (s .b) (s .m .now) (asking (rootMapTest (s .b) (s .m .now))) 1 dir
+          (words-of .ensures ∙ ap (page (s .b) (s .m .now)) (c .before .before .before .before .directory .ensures)) true (root-run (s .b) (s .m .now) 1)
+          (c .next-word .ensures),
+    )
 
 mul-table-of : tie.Need-mul-table-of Inv-loop μ-loop
 mul-table-of c = search needs
@@ -78,30 +84,57 @@ table-of-requires-2 : tie.Need-table-of-requires-2 Inv-loop μ-loop
 table-of-requires-2 c κs = search needs
 
 cast-t18 : tie.Need-cast-t18 Inv-loop μ-loop
-cast-t18 c = omega (arith, dir-short (c .before .before .before .before .before .before .before .before .before .before .before .before .before .before .before .args .b) (c .before .before .before .before .before .before .before .before .before .before .before .before .before .before .before .args .m .now) (c .before .before .before .before .before .before .before .before .before .before .directory .result .0) (c .before .before .before .before .before .before .before .before .before .words-of .ensures), words-most (c .before .before .before .before .before .before .before .before .before .before .before .before .before .before .before .args .b) (c .before .before .before .before .before .before .before .before .before .before .before .before .before .before .before .pre .1))
+cast-t18 c =
+    let s = c .before .before .before .before .before .before .before .before .before .before .before .before .before .before .before .args in
+    let h = c .before .before .before .before .before .before .before .before .before .before .before .before .before .before .before .pre in
+    let directory = c .before .before .before .before .before .before .before .before .before .before .directory in
+    let words-of = c .before .before .before .before .before .before .before .before .before .words-of in
+    omega (arith, dir-short (s .b) (s .m .now) (directory .result .0) (words-of .ensures), words-most (s .b) (h .1))
 
 page-words-requires : tie.Need-page-words-requires Inv-loop μ-loop
 page-words-requires c κs = search needs
 
 mul-t20 : tie.Need-mul-t20 Inv-loop μ-loop
 mul-t20 c =
-    let e : c .before .before .before .before .before .before .loop .i * c .page-words .result ≡ c .before .before .before .before .before .before .loop .i * pageWords (c .before .before .before .before .before .before .before .before .before .before .before .before .before .before .before .before .args .b) = rw (c .page-words .ensures .0) in
-    omega (arith, row-in (c .before .before .before .before .before .before .before .before .before .before .before .before .before .before .before .before .args .b) (c .before .before .before .before .before .before .loop .i) (omega (arith, dir-short (c .before .before .before .before .before .before .before .before .before .before .before .before .before .before .before .before .args .b) (c .before .before .before .before .before .before .before .before .before .before .before .before .before .before .before .before .args .m .now) (c .before .before .before .before .before .before .before .before .before .before .before .directory .result .0) (c .before .before .before .before .before .before .before .before .before .before .words-of .ensures))), most-pages (c .before .before .before .before .before .before .before .before .before .before .before .before .before .before .before .before .args .b) (c .before .before .before .before .before .before .before .before .before .before .before .before .before .before .before .before .pre .1))
+    let s = c .before .before .before .before .before .before .before .before .before .before .before .before .before .before .before .before .args in
+    let h = c .before .before .before .before .before .before .before .before .before .before .before .before .before .before .before .before .pre in
+    let directory = c .before .before .before .before .before .before .before .before .before .before .before .directory in
+    let words-of = c .before .before .before .before .before .before .before .before .before .before .words-of in
+    let p = c .before .before .before .before .before .before .loop in
+    let e : p .i * c .page-words .result ≡ p .i * pageWords (s .b) = rw (c .page-words .ensures .0) in
+    omega (arith, row-in (s .b) (p .i) (omega (arith, dir-short (s .b) (s .m .now) (directory .result .0) (words-of .ensures))), most-pages (s .b) (h .1))
 
 root-row-requires : tie.Need-root-row-requires Inv-loop μ-loop
 root-row-requires c κs =
+    let h = c .before .before .before .before .before .before .before .before .before .before .before .before .before .before .before .before .pre in
+    let threes-for = c .before .before .before .before .before .before .before .before .before .before .before .before .before .threes-for in
+    let directory = c .before .before .before .before .before .before .before .before .before .before .before .directory in
+    let words-of = c .before .before .before .before .before .before .before .before .before .before .words-of in
+    let p = c .before .before .before .before .before .before .loop in
     let s = c .before .before .before .before .before .before .before .before .before .before .before .before .before .before .before .before .args in
-    let e : c .before .before .before .before .before .before .loop .i * c .page-words .result ≡ c .before .before .before .before .before .before .loop .i * pageWords (s .b) = rw (c .page-words .ensures .0) in
-    let short = dir-short (s .b) (s .m .now) (c .before .before .before .before .before .before .before .before .before .before .before .directory .result .0) (c .before .before .before .before .before .before .before .before .before .before .words-of .ensures) in (
-      c .before .before .before .before .before .before .before .before .before .before .before .before .before .before .before .before .pre,
-      (omega (arith, row-in (s .b) (c .before .before .before .before .before .before .loop .i) (omega (arith, short))), (omega (arith, c .before .before .before .before .before .before .before .before .before .before .before .before .before .threes-for .ensures .1, most-pages (s .b) (c .before .before .before .before .before .before .before .before .before .before .before .before .before .before .before .before .pre .1)), part-short (s .b) (s .m .now) (getD (c .before .before .before .before .before .before .before .before .before .before .words-of .result .now) (c .before .before .before .before .before .before .loop .i) 0) (c .before .before .before .table-of .ensures))),
+    let e : p .i * c .page-words .result ≡ p .i * pageWords (s .b) = rw (c .page-words .ensures .0) in
+    let short = dir-short (s .b) (s .m .now) (directory .result .0) (words-of .ensures) in (
+      h,
+      (omega (arith, row-in (s .b) (p .i) (omega (arith, short))), (omega (arith, threes-for .ensures .1, most-pages (s .b) (h .1)), part-short (s .b) (s .m .now) (getD (words-of .result .now) (p .i) 0) (c .before .before .before .table-of .ensures))),
     )
 
 returns : tie.Need-returns Inv-loop μ-loop
 returns c =
+    let pages = c .before .before .before .before .before .before .before .before .before .before .before .before .before .before .before .before .pages in
+    let threes-for = c .before .before .before .before .before .before .before .before .before .before .before .before .before .before .before .threes-for in
+    let flat-pages = c .before .before .before .before .before .before .before .before .before .before .before .before .before .before .flat-pages in
+    let directory = c .before .before .before .before .before .before .before .before .before .before .before .before .before .directory in
+    let words-of = c .before .before .before .before .before .before .before .before .before .before .before .before .words-of in
+    let shadow2 = c .before .before .before .before .before .before .before .before .before .before .before .shadow2 in
+    let words-of2 = c .before .before .before .before .before .before .before .before .before .before .words-of2 in
+    let p = c .before .before .before .before .before .before .before .before .loop in
+    let test = c .before .before .before .before .before .before .before .loop-test in
+    let table-of = c .before .before .before .before .before .table-of in
     let s = c .before .before .before .before .before .before .before .before .before .before .before .before .before .before .before .before .before .before .args in
-    let e = c .before .before .before .before .before .before .before .before .before .before .before .before .words-of .ensures ∙ ap (page (s .b) (s .m .now)) (c .before .before .before .before .before .before .before .before .before .before .before .before .before .directory .ensures) in
-    asks-stop (s .b) (s .m .now) (rootMapTest (s .b) (s .m .now)) 1 (c .before .before .before .before .before .before .before .before .before .before .before .before .words-of .result .now) e (c .before .before .before .before .before .before .before .loop-test .taken) (root-row (s .b) (s .m .now) (c .before .before .before .before .before .before .before .before .loop .i) e (c .before .before .before .before .before .before .before .loop-test .taken) (c .before .before .before .before .before .before .before .before .loop .inv .1 (c .before .before .before .before .before .before .before .loop-test .taken)) (c .before .before .before .before .before .table-of .ensures) (c .before .before .before .before .before .before .before .before .before .before .words-of2 .ensures ∙ ap (page (s .b) (s .m .now)) (c .before .before .before .before .before .before .before .before .before .before .before .shadow2 .ensures)) (c .before .before .before .before .read .ensures) (c .before .before .before .table-of2 .ensures) (ap (λ (x : ℕ). c .before .before .before .before .before .before .before .before .loop .i * x) (c .before .before .page-words .ensures .0)) (c .before .before .before .before .before .before .before .before .before .before .before .before .before .before .before .before .pages .ensures) (c .before .before .before .before .before .before .before .before .before .before .before .before .before .before .before .threes-for .ensures .0) (c .before .before .before .before .before .before .before .before .before .before .before .before .before .before .flat-pages .ensures) (c .before .root-row .ensures)) (c .if1 .taken) (c .before .before .before .before .before .before .before .before .loop .inv .2)
+    let e = words-of .ensures ∙ ap (page (s .b) (s .m .now)) (directory .ensures) in
+    asks-stop (s .b) (s .m .now) (rootMapTest (s .b) (s .m .now)) 1 (words-of .result .now) e (test .taken)
+    (root-row (s .b) (s .m .now) (p .i) e (test .taken) (p .inv .1 (test .taken)) (table-of .ensures) (words-of2 .ensures ∙ ap (page (s .b) (s .m .now)) (shadow2 .ensures)) (c .before .before .before .before .read .ensures) (c .before .before .before .table-of2 .ensures) (ap (λ (x : ℕ). p .i * x) (c .before .before .page-words .ensures .0)) (pages .ensures) (threes-for .ensures .0) (flat-pages .ensures) (c .before .root-row .ensures))
+    (c .if1 .taken) (p .inv .2)
 
 add-next-word : tie.Need-add-next-word Inv-loop μ-loop
 add-next-word c = search needs
@@ -110,19 +143,40 @@ next-word-requires-2 : tie.Need-next-word-requires-2 Inv-loop μ-loop
 next-word-requires-2 c κs = search needs
 
 loop-less : tie.Need-loop-less Inv-loop μ-loop
-loop-less c = omega (arith, next-low (used (c .before .before .before .before .before .before .before .before .before .before .before .before .before .words-of .result .now)) (length (c .before .before .before .before .before .before .before .before .before .before .before .before .before .words-of .result .now)) (c .before .before .before .before .before .before .before .before .before .loop .i + 1) (c .next-word2 .ensures))
+loop-less c =
+    let words-of = c .before .before .before .before .before .before .before .before .before .before .before .before .before .words-of in
+    let p = c .before .before .before .before .before .before .before .before .before .loop in
+    omega (arith, next-low (used (words-of .result .now)) (length (words-of .result .now)) (p .i + 1) (c .next-word2 .ensures))
 
 loop-again : tie.Need-loop-again Inv-loop μ-loop
 loop-again c =
+    let pages = c .before .before .before .before .before .before .before .before .before .before .before .before .before .before .before .before .before .pages in
+    let threes-for = c .before .before .before .before .before .before .before .before .before .before .before .before .before .before .before .before .threes-for in
+    let flat-pages = c .before .before .before .before .before .before .before .before .before .before .before .before .before .before .before .flat-pages in
+    let directory = c .before .before .before .before .before .before .before .before .before .before .before .before .before .before .directory in
+    let words-of = c .before .before .before .before .before .before .before .before .before .before .before .before .before .words-of in
+    let shadow2 = c .before .before .before .before .before .before .before .before .before .before .before .before .shadow2 in
+    let words-of2 = c .before .before .before .before .before .before .before .before .before .before .before .words-of2 in
+    let p = c .before .before .before .before .before .before .before .before .before .loop in
+    let test = c .before .before .before .before .before .before .before .before .loop-test in
+    let table-of = c .before .before .before .before .before .before .table-of in
+    let read = c .before .before .before .before .before .read in
     let s = c .before .before .before .before .before .before .before .before .before .before .before .before .before .before .before .before .before .before .before .args in
-    let dir = c .before .before .before .before .before .before .before .before .before .before .before .before .before .words-of .result .now in
-    let e = c .before .before .before .before .before .before .before .before .before .before .before .before .before .words-of .ensures ∙ ap (page (s .b) (s .m .now)) (c .before .before .before .before .before .before .before .before .before .before .before .before .before .before .directory .ensures) in
-    (next-high (used dir) (length dir) (c .before .before .before .before .before .before .before .before .before .loop .i + 1) (omega arith) (c .next-word2 .ensures), next-here (used dir) (length dir) (c .before .before .before .before .before .before .before .before .before .loop .i + 1) (omega arith) (c .next-word2 .ensures), asks-next (s .b) (s .m .now) (rootMapTest (s .b) (s .m .now)) 1 dir e (c .before .before .before .before .before .before .before .before .loop-test .taken) (root-row (s .b) (s .m .now) (c .before .before .before .before .before .before .before .before .before .loop .i) e (c .before .before .before .before .before .before .before .before .loop-test .taken) (c .before .before .before .before .before .before .before .before .before .loop .inv .1 (c .before .before .before .before .before .before .before .before .loop-test .taken)) (c .before .before .before .before .before .before .table-of .ensures) (c .before .before .before .before .before .before .before .before .before .before .before .words-of2 .ensures ∙ ap (page (s .b) (s .m .now)) (c .before .before .before .before .before .before .before .before .before .before .before .before .shadow2 .ensures)) (c .before .before .before .before .before .read .ensures) (c .before .before .before .before .table-of2 .ensures) (ap (λ (x : ℕ). c .before .before .before .before .before .before .before .before .before .loop .i * x) (c .before .before .before .page-words .ensures .0)) (c .before .before .before .before .before .before .before .before .before .before .before .before .before .before .before .before .before .pages .ensures) (c .before .before .before .before .before .before .before .before .before .before .before .before .before .before .before .before .threes-for .ensures .0) (c .before .before .before .before .before .before .before .before .before .before .before .before .before .before .before .flat-pages .ensures) (c .before .before .root-row .ensures)) (c .before .if1 .left) (c .next-word2 .ensures) (c .before .before .before .before .before .before .before .before .before .loop .inv .2))
+    let dir = words-of .result .now in
+    let e = words-of .ensures ∙ ap (page (s .b) (s .m .now)) (directory .ensures) in (
+      next-high (used dir) (length dir) (p .i + 1) (omega arith) (c .next-word2 .ensures),
+      next-here (used dir) (length dir) (p .i + 1) (omega arith) (c .next-word2 .ensures),
+      asks-next (s .b) (s .m .now) (rootMapTest (s .b) (s .m .now)) 1 dir e (test .taken)
+          (root-row (s .b) (s .m .now) (p .i) e (test .taken) (p .inv .1 (test .taken)) (table-of .ensures) (words-of2 .ensures ∙ ap (page (s .b) (s .m .now)) (shadow2 .ensures)) (read .ensures) (c .before .before .before .before .table-of2 .ensures) (ap (λ (x : ℕ). p .i * x) (c .before .before .before .page-words .ensures .0)) (pages .ensures) (threes-for .ensures .0) (flat-pages .ensures) (c .before .before .root-row .ensures))
+          (c .before .if1 .left) (c .next-word2 .ensures) (p .inv .2),
+    )
 
 returns-2 : tie.Need-returns-2 Inv-loop μ-loop
 returns-2 c =
+    let directory = c .before .before .before .before .before .before .directory in
+    let words-of = c .before .before .before .before .before .words-of in
     let s = c .before .before .before .before .before .before .before .before .before .before .before .args in
-    sym (rows-end (s .b) (s .m .now) (asking (rootMapTest (s .b) (s .m .now))) 1 (c .before .before .before .before .before .words-of .result .now) (c .before .before .before .before .before .words-of .ensures ∙ ap (page (s .b) (s .m .now)) (c .before .before .before .before .before .before .directory .ensures)) true (c .loop-test .left) (c .before .loop .inv .2))
+    sym (rows-end (s .b) (s .m .now) (asking (rootMapTest (s .b) (s .m .now))) 1 (words-of .result .now) (words-of .ensures ∙ ap (page (s .b) (s .m .now)) (directory .ensures)) true (c .loop-test .left) (c .before .loop .inv .2))
 
 pub root-map-spec : {M : Type 1} → statement M
 root-map-spec =

@@ -57,7 +57,12 @@ root-bit-requires : tie.Need-root-bit-requires Inv-loop μ-loop Inv-loop2 μ-loo
 root-bit-requires c κs = search needs
 
 add-k : tie.Need-add-k Inv-loop μ-loop Inv-loop2 μ-loop2
-add-k c = omega (arith, c .before .before .before .before .before .before .before .before .before .pre .1 .1 .1, words-most (c .before .before .before .before .before .before .before .before .before .args .b) (c .before .before .before .before .before .before .before .before .before .pre .0 .1), c .before .before .before .before .before .before .least .ensures, c .before .before .before .before .before .loop .inv .0, c .before .before .before .before .before .loop .inv .1 .0, c .root-bit .ensures .1)
+add-k c =
+    let h = c .before .before .before .before .before .before .before .before .before .pre in
+    let s = c .before .before .before .before .before .before .before .before .before .args in
+    let least = c .before .before .before .before .before .before .least in
+    let p = c .before .before .before .before .before .loop in
+    omega (arith, h .1 .1 .1, words-most (s .b) (h .0 .1), least .ensures, p .inv .0, p .inv .1 .0, c .root-bit .ensures .1)
 
 add-i : tie.Need-add-i Inv-loop μ-loop Inv-loop2 μ-loop2
 add-i c = search needs
@@ -67,9 +72,14 @@ loop-less c = search needs
 
 loop-again : tie.Need-loop-again Inv-loop μ-loop Inv-loop2 μ-loop2
 loop-again c =
+    let h = c .before .before .before .before .before .before .before .before .before .pre in
+    let least = c .before .before .before .before .before .before .least in
     let s = c .before .before .before .before .before .before .before .before .before .args in
-    let p = c .before .before .before .before .before .loop in
-    (omega arith, counted-next (λ l. rootWords (s .b) (s .first) (s .flat) (s .v .0 + l) (getD (s .pt .now) l 0) (getD (s .s2 .now) l 0)) (pageWords (s .b)) (p .i) (omega (arith, c .before .before .before .before .before .before .before .before .before .pre .1 .1 .1, c .before .before .before .before .before .before .least .ensures)) (c .root-bit .ensures .0) (p .inv .1))
+    let p = c .before .before .before .before .before .loop in (
+      omega arith,
+      counted-next (λ l. rootWords (s .b) (s .first) (s .flat) (s .v .0 + l) (getD (s .pt .now) l 0) (getD (s .s2 .now) l 0)) (pageWords (s .b)) (p .i)
+          (omega (arith, h .1 .1 .1, least .ensures)) (c .root-bit .ensures .0) (p .inv .1),
+    )
 
 cast-if1 : tie.Need-cast-if1 Inv-loop μ-loop Inv-loop2 μ-loop2
 cast-if1 c = search needs
@@ -85,11 +95,16 @@ cast-j c = search needs
 
 loop2-holds : tie.Need-loop2-holds Inv-loop μ-loop Inv-loop2 μ-loop2
 loop2-holds c =
+    let h = c .before .before .before .before .before .before .before .pre in
+    let least = c .before .before .before .before .least in
     let s = c .before .before .before .before .before .before .before .args in
     let p = c .before .before .before .loop in
-    let n = c .before .before .before .before .least .result in
-    let e : p .i ≡ n = omega (arith, p .inv .0, c .before .before .loop-test .left) in
-    (omega (arith, c .before .before .before .before .before .before .before .pre .1 .1 .1, c .before .before .before .before .least .ensures), p .inv .1 .1 (omega (arith, p .inv .1 .0, c .before .if1 .left, e)) ∙ ap (λ (j : ℕ). run (asking (λ l. rootWords (s .b) (s .first) (s .flat) (s .v .0 + l) (getD (s .pt .now) l 0) (getD (s .s2 .now) l 0))) true (from (pageWords (s .b) - j) j)) e)
+    let n = least .result in
+    let e : p .i ≡ n = omega (arith, p .inv .0, c .before .before .loop-test .left) in (
+      omega (arith, h .1 .1 .1, least .ensures),
+      p .inv .1 .1 (omega (arith, p .inv .1 .0, c .before .if1 .left, e)) ∙ ap
+          (λ (j : ℕ). run (asking (λ l. rootWords (s .b) (s .first) (s .flat) (s .v .0 + l) (getD (s .pt .now) l 0) (getD (s .s2 .now) l 0))) true (from (pageWords (s .b) - j) j)) e,
+    )
 
 add-t27 : tie.Need-add-t27 Inv-loop μ-loop Inv-loop2 μ-loop2
 add-t27 c = search needs
@@ -111,10 +126,13 @@ root-cell-requires c κs = search needs
 
 returns-2 : tie.Need-returns-2 Inv-loop μ-loop Inv-loop2 μ-loop2
 returns-2 c =
+    let page-words = c .before .before .before .before .before .before .before .page-words in
     let s = c .before .before .before .before .before .before .before .before .before .before .before .before .before .before .args in
     let p = c .before .before .before .before .before .before .loop2 in
-    ask-stop (λ l. rootWords (s .b) (s .first) (s .flat) (s .v .0 + l) (getD (s .pt .now) l 0) (getD (s .s2 .now) l 0)) (pageWords (s .b)) (p .j) (omega (arith, c .before .before .before .before .before .before .before .page-words .ensures .0))
-    (c .before .root-cell .ensures ∙ root-words (s .b) (s .first) (s .flat) (s .v .0 + p .j) (c .before .before .before .read .ensures) (c .before .before .read2 .ensures)) (c .if2 .taken) (p .inv .1)
+    ask-stop (λ l. rootWords (s .b) (s .first) (s .flat) (s .v .0 + l) (getD (s .pt .now) l 0) (getD (s .s2 .now) l 0)) (pageWords (s .b)) (p .j)
+    (omega (arith, page-words .ensures .0))
+    (c .before .root-cell .ensures ∙ root-words (s .b) (s .first) (s .flat) (s .v .0 + p .j) (c .before .before .before .read .ensures) (c .before .before .read2 .ensures))
+    (c .if2 .taken) (p .inv .1)
 
 add-j : tie.Need-add-j Inv-loop μ-loop Inv-loop2 μ-loop2
 add-j c = search needs
@@ -124,11 +142,14 @@ loop2-less c = search needs
 
 loop2-again : tie.Need-loop2-again Inv-loop μ-loop Inv-loop2 μ-loop2
 loop2-again c =
+    let page-words = c .before .before .before .before .before .before .before .page-words in
     let s = c .before .before .before .before .before .before .before .before .before .before .before .before .before .before .args in
     let p = c .before .before .before .before .before .before .loop2 in (
-      omega (arith, c .before .before .before .before .before .before .before .page-words .ensures .0),
-      ask-next (λ l. rootWords (s .b) (s .first) (s .flat) (s .v .0 + l) (getD (s .pt .now) l 0) (getD (s .s2 .now) l 0)) (pageWords (s .b)) (p .j) (omega (arith, c .before .before .before .before .before .before .before .page-words .ensures .0))
-          (c .before .root-cell .ensures ∙ root-words (s .b) (s .first) (s .flat) (s .v .0 + p .j) (c .before .before .before .read .ensures) (c .before .before .read2 .ensures)) (c .if2 .left) (p .inv .1),
+      omega (arith, page-words .ensures .0),
+      ask-next (λ l. rootWords (s .b) (s .first) (s .flat) (s .v .0 + l) (getD (s .pt .now) l 0) (getD (s .s2 .now) l 0)) (pageWords (s .b)) (p .j)
+          (omega (arith, page-words .ensures .0))
+          (c .before .root-cell .ensures ∙ root-words (s .b) (s .first) (s .flat) (s .v .0 + p .j) (c .before .before .before .read .ensures) (c .before .before .read2 .ensures))
+          (c .if2 .left) (p .inv .1),
     )
 
 returns-3 : tie.Need-returns-3 Inv-loop μ-loop Inv-loop2 μ-loop2

@@ -12,10 +12,15 @@ page-bytes-requires : tie.Need-page-bytes-requires
 page-bytes-requires c κs = search needs
 
 mul-result : tie.Need-mul-result
-mul-result c = let e : c .before .before .args .v .0 * c .before .page-bytes .result ≡ address (c .before .before .args .b) (c .before .before .args .v .0) = rw (c .before .page-bytes .ensures .0) in omega (arith, address-fits (c .before .before .args .b) (c .before .before .pre .0 .1) (c .before .before .args .v .0) (c .before .before .pre .1))
+mul-result c =
+    let s = c .before .before .args in
+    let h = c .before .before .pre in
+    let e : s .v .0 * c .before .page-bytes .result ≡ address (s .b) (s .v .0) = rw (c .before .page-bytes .ensures .0) in omega (arith, address-fits (s .b) (h .0 .1) (s .v .0) (h .1))
 
 returns : tie.Need-returns
-returns c = let e : c .before .before .args .v .0 * c .before .page-bytes .result ≡ address (c .before .before .args .b) (c .before .before .args .v .0) = rw (c .before .page-bytes .ensures .0) in e
+returns c =
+    let s = c .before .before .args in
+    let e : s .v .0 * c .before .page-bytes .result ≡ address (s .b) (s .v .0) = rw (c .before .page-bytes .ensures .0) in e
 
 pub address-of-spec : {M : Type 1} → statement M
 address-of-spec = tie.close (tie.spec page-bytes-requires mul-result returns)

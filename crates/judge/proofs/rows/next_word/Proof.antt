@@ -37,7 +37,10 @@ shared-slice-read-if1 : tie.Need-shared-slice-read-if1 Inv-loop μ-loop Inv-loop
 shared-slice-read-if1 c = search needs
 
 returns : tie.Need-returns Inv-loop μ-loop Inv-loop2 μ-loop2
-returns c = sym (c .before .before .before .loop .inv .1 ∙ seek-here (used (c .before .before .before .before .args .s .now)) (length (c .before .before .before .before .args .s .now)) (c .before .before .before .loop .j) (omega arith) (ap not (ne-eqb (getD (c .before .before .before .before .args .s .now) (c .before .before .before .loop .j) 0) 0 (c .if1 .taken))))
+returns c =
+    let s = c .before .before .before .before .args in
+    let p = c .before .before .before .loop in
+    sym (p .inv .1 ∙ seek-here (used (s .s .now)) (length (s .s .now)) (p .j) (omega arith) (ap not (ne-eqb (getD (s .s .now) (p .j) 0) 0 (c .if1 .taken))))
 
 add-if2 : tie.Need-add-if2 Inv-loop μ-loop Inv-loop2 μ-loop2
 add-if2 c = search needs
@@ -52,7 +55,10 @@ add-result : tie.Need-add-result Inv-loop μ-loop Inv-loop2 μ-loop2
 add-result c = search needs
 
 returns-2 : tie.Need-returns-2 Inv-loop μ-loop Inv-loop2 μ-loop2
-returns-2 c = sym (c .before .before .before .before .before .loop .inv .1 ∙ seek-on (used (c .before .before .before .before .before .before .args .s .now)) (length (c .before .before .before .before .before .before .args .s .now)) (c .before .before .before .before .before .loop .j) (omega arith) (ap not (eq-eqb (getD (c .before .before .before .before .before .before .args .s .now) (c .before .before .before .before .before .loop .j) 0) 0 (c .before .before .if1 .left))) ∙ seek-here (used (c .before .before .before .before .before .before .args .s .now)) (length (c .before .before .before .before .before .before .args .s .now)) (c .before .before .before .before .before .loop .j + 1) (omega arith) (ap not (ne-eqb (getD (c .before .before .before .before .before .before .args .s .now) (c .before .before .before .before .before .loop .j + 1) 0) 0 (c .if2 .taken))))
+returns-2 c =
+    let s = c .before .before .before .before .before .before .args in
+    let p = c .before .before .before .before .before .loop in
+    sym (p .inv .1 ∙ seek-on (used (s .s .now)) (length (s .s .now)) (p .j) (omega arith) (ap not (eq-eqb (getD (s .s .now) (p .j) 0) 0 (c .before .before .if1 .left))) ∙ seek-here (used (s .s .now)) (length (s .s .now)) (p .j + 1) (omega arith) (ap not (ne-eqb (getD (s .s .now) (p .j + 1) 0) 0 (c .if2 .taken))))
 
 add-if3 : tie.Need-add-if3 Inv-loop μ-loop Inv-loop2 μ-loop2
 add-if3 c = search needs
@@ -67,7 +73,10 @@ add-result-2 : tie.Need-add-result-2 Inv-loop μ-loop Inv-loop2 μ-loop2
 add-result-2 c = search needs
 
 returns-3 : tie.Need-returns-3 Inv-loop μ-loop Inv-loop2 μ-loop2
-returns-3 c = sym (c .before .before .before .before .before .before .before .loop .inv .1 ∙ seek-two (used (c .before .before .before .before .before .before .before .before .args .s .now)) (length (c .before .before .before .before .before .before .before .before .args .s .now)) (c .before .before .before .before .before .before .before .loop .j) (omega arith) (ap not (eq-eqb (getD (c .before .before .before .before .before .before .before .before .args .s .now) (c .before .before .before .before .before .before .before .loop .j) 0) 0 (c .before .before .before .before .if1 .left))) (ap not (eq-eqb (getD (c .before .before .before .before .before .before .before .before .args .s .now) (c .before .before .before .before .before .before .before .loop .j + 1) 0) 0 (c .before .before .if2 .left))) ∙ seek-here (used (c .before .before .before .before .before .before .before .before .args .s .now)) (length (c .before .before .before .before .before .before .before .before .args .s .now)) (c .before .before .before .before .before .before .before .loop .j + 2) (omega arith) (ap not (ne-eqb (getD (c .before .before .before .before .before .before .before .before .args .s .now) (c .before .before .before .before .before .before .before .loop .j + 2) 0) 0 (c .if3 .taken))))
+returns-3 c =
+    let s = c .before .before .before .before .before .before .before .before .args in
+    let p = c .before .before .before .before .before .before .before .loop in
+    sym (p .inv .1 ∙ seek-two (used (s .s .now)) (length (s .s .now)) (p .j) (omega arith) (ap not (eq-eqb (getD (s .s .now) (p .j) 0) 0 (c .before .before .before .before .if1 .left))) (ap not (eq-eqb (getD (s .s .now) (p .j + 1) 0) 0 (c .before .before .if2 .left))) ∙ seek-here (used (s .s .now)) (length (s .s .now)) (p .j + 2) (omega arith) (ap not (ne-eqb (getD (s .s .now) (p .j + 2) 0) 0 (c .if3 .taken))))
 
 add-if4 : tie.Need-add-if4 Inv-loop μ-loop Inv-loop2 μ-loop2
 add-if4 c = search needs
@@ -82,7 +91,11 @@ add-result-3 : tie.Need-add-result-3 Inv-loop μ-loop Inv-loop2 μ-loop2
 add-result-3 c = search needs
 
 returns-4 : tie.Need-returns-4 Inv-loop μ-loop Inv-loop2 μ-loop2
-returns-4 c = sym (c .before .before .before .before .before .before .before .before .before .loop .inv .1 ∙ seek-three (used (c .before .before .before .before .before .before .before .before .before .before .args .s .now)) (length (c .before .before .before .before .before .before .before .before .before .before .args .s .now)) (c .before .before .before .before .before .before .before .before .before .loop .j) (omega arith) (ap not (eq-eqb (getD (c .before .before .before .before .before .before .before .before .before .before .args .s .now) (c .before .before .before .before .before .before .before .before .before .loop .j) 0) 0 (c .before .before .before .before .before .before .if1 .left))) (ap not (eq-eqb (getD (c .before .before .before .before .before .before .before .before .before .before .args .s .now) (c .before .before .before .before .before .before .before .before .before .loop .j + 1) 0) 0 (c .before .before .before .before .if2 .left))) (ap not (eq-eqb (getD (c .before .before .before .before .before .before .before .before .before .before .args .s .now) (c .before .before .before .before .before .before .before .before .before .loop .j + 2) 0) 0 (c .before .before .if3 .left))) ∙ seek-here (used (c .before .before .before .before .before .before .before .before .before .before .args .s .now)) (length (c .before .before .before .before .before .before .before .before .before .before .args .s .now)) (c .before .before .before .before .before .before .before .before .before .loop .j + 3) (omega arith) (ap not (ne-eqb (getD (c .before .before .before .before .before .before .before .before .before .before .args .s .now) (c .before .before .before .before .before .before .before .before .before .loop .j + 3) 0) 0 (c .if4 .taken))))
+returns-4 c =
+    let s = c .before .before .before .before .before .before .before .before .before .before .args in
+    let p = c .before .before .before .before .before .before .before .before .before .loop in
+    let first = c .before .before .before .before .before .before .if1 in
+    sym (p .inv .1 ∙ seek-three (used (s .s .now)) (length (s .s .now)) (p .j) (omega arith) (ap not (eq-eqb (getD (s .s .now) (p .j) 0) 0 (first .left))) (ap not (eq-eqb (getD (s .s .now) (p .j + 1) 0) 0 (c .before .before .before .before .if2 .left))) (ap not (eq-eqb (getD (s .s .now) (p .j + 2) 0) 0 (c .before .before .if3 .left))) ∙ seek-here (used (s .s .now)) (length (s .s .now)) (p .j + 3) (omega arith) (ap not (ne-eqb (getD (s .s .now) (p .j + 3) 0) 0 (c .if4 .taken))))
 
 add-j : tie.Need-add-j Inv-loop μ-loop Inv-loop2 μ-loop2
 add-j c = search needs
@@ -91,7 +104,15 @@ loop-less : tie.Need-loop-less Inv-loop μ-loop Inv-loop2 μ-loop2
 loop-less c = search needs
 
 loop-again : tie.Need-loop-again Inv-loop μ-loop Inv-loop2 μ-loop2
-loop-again c = (omega arith, c .before .before .before .before .before .before .before .before .before .loop .inv .1 ∙ seek-four (used (c .before .before .before .before .before .before .before .before .before .before .args .s .now)) (length (c .before .before .before .before .before .before .before .before .before .before .args .s .now)) (c .before .before .before .before .before .before .before .before .before .loop .j) (omega arith) (ap not (eq-eqb (getD (c .before .before .before .before .before .before .before .before .before .before .args .s .now) (c .before .before .before .before .before .before .before .before .before .loop .j) 0) 0 (c .before .before .before .before .before .before .if1 .left))) (ap not (eq-eqb (getD (c .before .before .before .before .before .before .before .before .before .before .args .s .now) (c .before .before .before .before .before .before .before .before .before .loop .j + 1) 0) 0 (c .before .before .before .before .if2 .left))) (ap not (eq-eqb (getD (c .before .before .before .before .before .before .before .before .before .before .args .s .now) (c .before .before .before .before .before .before .before .before .before .loop .j + 2) 0) 0 (c .before .before .if3 .left))) (ap not (eq-eqb (getD (c .before .before .before .before .before .before .before .before .before .before .args .s .now) (c .before .before .before .before .before .before .before .before .before .loop .j + 3) 0) 0 (c .if4 .left))))
+loop-again c =
+    let s = c .before .before .before .before .before .before .before .before .before .before .args in
+    let p = c .before .before .before .before .before .before .before .before .before .loop in
+    let first = c .before .before .before .before .before .before .if1 in (
+      omega arith,
+      p .inv .1 ∙ seek-four (used (s .s .now)) (length (s .s .now)) (p .j) (omega arith) (ap not (eq-eqb (getD (s .s .now) (p .j) 0) 0 (first .left)))
+          (ap not (eq-eqb (getD (s .s .now) (p .j + 1) 0) 0 (c .before .before .before .before .if2 .left)))
+          (ap not (eq-eqb (getD (s .s .now) (p .j + 2) 0) 0 (c .before .before .if3 .left))) (ap not (eq-eqb (getD (s .s .now) (p .j + 3) 0) 0 (c .if4 .left))),
+    )
 
 loop2-holds : tie.Need-loop2-holds Inv-loop μ-loop Inv-loop2 μ-loop2
 loop2-holds c = c .before .loop .inv
@@ -103,7 +124,10 @@ shared-slice-read-if5 : tie.Need-shared-slice-read-if5 Inv-loop μ-loop Inv-loop
 shared-slice-read-if5 c = search needs
 
 returns-5 : tie.Need-returns-5 Inv-loop μ-loop Inv-loop2 μ-loop2
-returns-5 c = sym (c .before .before .before .loop2 .inv .1 ∙ seek-here (used (c .before .before .before .before .before .before .args .s .now)) (length (c .before .before .before .before .before .before .args .s .now)) (c .before .before .before .loop2 .j) (omega arith) (ap not (ne-eqb (getD (c .before .before .before .before .before .before .args .s .now) (c .before .before .before .loop2 .j) 0) 0 (c .if5 .taken))))
+returns-5 c =
+    let s = c .before .before .before .before .before .before .args in
+    let q = c .before .before .before .loop2 in
+    sym (q .inv .1 ∙ seek-here (used (s .s .now)) (length (s .s .now)) (q .j) (omega arith) (ap not (ne-eqb (getD (s .s .now) (q .j) 0) 0 (c .if5 .taken))))
 
 add-j-2 : tie.Need-add-j-2 Inv-loop μ-loop Inv-loop2 μ-loop2
 add-j-2 c = search needs
@@ -112,10 +136,15 @@ loop2-less : tie.Need-loop2-less Inv-loop μ-loop Inv-loop2 μ-loop2
 loop2-less c = search needs
 
 loop2-again : tie.Need-loop2-again Inv-loop μ-loop Inv-loop2 μ-loop2
-loop2-again c = (omega arith, c .before .before .before .loop2 .inv .1 ∙ seek-on (used (c .before .before .before .before .before .before .args .s .now)) (length (c .before .before .before .before .before .before .args .s .now)) (c .before .before .before .loop2 .j) (omega arith) (ap not (eq-eqb (getD (c .before .before .before .before .before .before .args .s .now) (c .before .before .before .loop2 .j) 0) 0 (c .if5 .left))))
+loop2-again c =
+    let s = c .before .before .before .before .before .before .args in
+    let q = c .before .before .before .loop2 in
+    (omega arith, q .inv .1 ∙ seek-on (used (s .s .now)) (length (s .s .now)) (q .j) (omega arith) (ap not (eq-eqb (getD (s .s .now) (q .j) 0) 0 (c .if5 .left))))
 
 returns-6 : tie.Need-returns-6 Inv-loop μ-loop Inv-loop2 μ-loop2
-returns-6 c = sym (c .before .loop2 .inv .1 ∙ seek-end (used (c .before .before .before .before .args .s .now)) (length (c .before .before .before .before .args .s .now)) (c .before .loop2 .j) (c .loop2-test .left))
+returns-6 c =
+    let s = c .before .before .before .before .args in
+    sym (c .before .loop2 .inv .1 ∙ seek-end (used (s .s .now)) (length (s .s .now)) (c .before .loop2 .j) (c .loop2-test .left))
 
 pub next-word-spec : {M : Type 1} → statement M
 next-word-spec =

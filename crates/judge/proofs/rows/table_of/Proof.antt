@@ -16,7 +16,9 @@ part-result-end : tie.Need-part-result-end
 part-result-end c = search needs
 
 returns : tie.Need-returns
-returns c = sym (table-none (c .before .before .before .args .b) (c .before .before .before .args .m .now) (c .before .before .before .args .w) (c .before .if1 .taken))
+returns c =
+    let s = c .before .before .before .args in
+    sym (table-none (s .b) (s .m .now) (s .w) (c .before .if1 .taken))
 
 page-of-requires : tie.Need-page-of-requires
 page-of-requires c κs = search needs
@@ -25,7 +27,9 @@ words-of-requires : tie.Need-words-of-requires
 words-of-requires c κs = search needs
 
 returns-2 : tie.Need-returns-2
-returns-2 c = c .words-of .ensures ∙ ap (page (c .before .before .before .before .args .b) (c .before .before .before .before .args .m .now)) (c .before .page-of .ensures) ∙ sym (table-some (c .before .before .before .before .args .b) (c .before .before .before .before .args .m .now) (c .before .before .before .before .args .w) (c .before .before .if1 .left))
+returns-2 c =
+    let s = c .before .before .before .before .args in
+    c .words-of .ensures ∙ ap (page (s .b) (s .m .now)) (c .before .page-of .ensures) ∙ sym (table-some (s .b) (s .m .now) (s .w) (c .before .before .if1 .left))
 
 pub table-of-spec : {M : Type 1} → statement M
 table-of-spec =

@@ -19,7 +19,9 @@ header-test-requires : tie.Need-header-test-requires
 header-test-requires c κs = search needs
 
 returns : tie.Need-returns
-returns c = unsound-header 6 (c .before .before .before .before .args .m .now) (no (c .before .header-test .ensures ∙ ap (λ (b : ℕ). headerTest b (c .before .before .before .before .args .m .now)) (c .before .before .width .ensures)) (c .if1 .taken))
+returns c =
+    let s = c .before .before .before .before .args in
+    unsound-header 6 (s .m .now) (no (c .before .header-test .ensures ∙ ap (λ (b : ℕ). headerTest b (s .m .now)) (c .before .before .width .ensures)) (c .if1 .taken))
 
 pages-requires : tie.Need-pages-requires
 pages-requires c κs = search needs
@@ -34,19 +36,30 @@ part-seen-start : tie.Need-part-seen-start
 part-seen-start c = search needs
 
 part-seen-end : tie.Need-part-seen-end
-part-seen-end c = omega (arith, (c .pages .ensures ∙ ap (λ (b : ℕ). pages b (c .before .before .before .before .before .args .m .now)) (c .before .before .before .width .ensures)), header-most 6 (c .before .before .before .before .before .args .m .now) (yes (c .before .before .header-test .ensures ∙ ap (λ (b : ℕ). headerTest b (c .before .before .before .before .before .args .m .now)) (c .before .before .before .width .ensures)) (c .before .if1 .left)))
+part-seen-end c =
+    let s = c .before .before .before .before .before .args in
+    let width = c .before .before .before .width in
+    omega (arith, (c .pages .ensures ∙ ap (λ (b : ℕ). pages b (s .m .now)) (width .ensures)), header-most 6 (s .m .now) (yes (c .before .before .header-test .ensures ∙ ap (λ (b : ℕ). headerTest b (s .m .now)) (width .ensures)) (c .before .if1 .left)))
 
 judged-with-requires : tie.Need-judged-with-requires
-judged-with-requires c κs = (
-  omega (arith, c .before .before .before .before .width .ensures),
-  (
-    yes (c .before .before .before .header-test .ensures) (c .before .before .if1 .left),
-    clear-part (c .before .pages .result) (pages (c .before .before .before .before .width .result) (c .before .before .before .before .before .before .args .m .now)) (c .before .pages .ensures) (omega (arith, (c .before .pages .ensures ∙ ap (λ (b : ℕ). pages b (c .before .before .before .before .before .before .args .m .now)) (c .before .before .before .before .width .ensures)), header-most 6 (c .before .before .before .before .before .before .args .m .now) (yes (c .before .before .before .header-test .ensures ∙ ap (λ (b : ℕ). headerTest b (c .before .before .before .before .before .before .args .m .now)) (c .before .before .before .before .width .ensures)) (c .before .before .if1 .left)))),
-  ),
-)
+judged-with-requires c κs =
+    let s = c .before .before .before .before .before .before .args in
+    let width = c .before .before .before .before .width in
+    let header-test = c .before .before .before .header-test in
+    let first = c .before .before .if1 in (
+      omega (arith, width .ensures),
+      (
+        yes (header-test .ensures) (first .left),
+        clear-part (c .before .pages .result) (pages (width .result) (s .m .now)) (c .before .pages .ensures)
+            (omega (arith, (c .before .pages .ensures ∙ ap (λ (b : ℕ). pages b (s .m .now)) (width .ensures)), header-most 6 (s .m .now) (yes (header-test .ensures ∙ ap (λ (b : ℕ). headerTest b (s .m .now)) (width .ensures)) (first .left)))),
+      ),
+    )
 
 returns-2 : tie.Need-returns-2
-returns-2 c = c .before .judged-with .ensures ∙ ap (λ (b : ℕ). quickTest b (c .before .before .before .before .before .before .before .before .args .m .now)) (c .before .before .before .before .before .before .width .ensures) ∙ quick-exact 6 (omega arith) (c .before .before .before .before .before .before .before .before .args .m .now)
+returns-2 c =
+    let s = c .before .before .before .before .before .before .before .before .args in
+    let width = c .before .before .before .before .before .before .width in
+    c .before .judged-with .ensures ∙ ap (λ (b : ℕ). quickTest b (s .m .now)) (width .ensures) ∙ quick-exact 6 (omega arith) (s .m .now)
 
 pub is-sound-spec : {M : Type 1} → statement M
 is-sound-spec =

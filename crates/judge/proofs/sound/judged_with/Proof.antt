@@ -21,14 +21,22 @@ unfolding quickTest
 returns c = rw (c .before .before .before .before .pre .1 .0, no (c .before .root-test .ensures) (c .if1 .taken))
 
 tree-test-requires : tie.Need-tree-test-requires
-tree-test-requires c κs = (c .before .before .before .before .before .pre .0, ap length (c .before .before .before .before .before .pre .1 .1) ∙ length-replicate (pages (c .before .before .before .before .before .args .b) (c .before .before .before .before .before .args .m .now)) 0)
+tree-test-requires c κs =
+    let h = c .before .before .before .before .before .pre in
+    let s = c .before .before .before .before .before .args in
+    (h .0, ap length (h .1 .1) ∙ length-replicate (pages (s .b) (s .m .now)) 0)
 
 same-length : tie.Need-same-length
 same-length c = search needs
 
 returns-2 : tie.Need-returns-2
 unfolding quickTest
-returns-2 c = rw (c .before .before .before .before .before .before .before .before .before .pre .1 .0, yes (c .before .before .before .before .before .before .root-test .ensures) (c .before .before .before .before .before .if1 .left), no (c .before .before .before .tree-test .ensures ∙ ap (λ (s : Seen). judged (c .before .before .before .before .before .before .before .before .before .args .b) (c .before .before .before .before .before .before .before .before .before .args .m .now) (W.judge (children (c .before .before .before .before .before .before .before .before .before .args .b) (c .before .before .before .before .before .before .before .before .before .args .m .now)) (own (c .before .before .before .before .before .before .before .before .before .args .b) (c .before .before .before .before .before .before .before .before .before .args .m .now)) (partitionTest (c .before .before .before .before .before .before .before .before .before .args .b) (c .before .before .before .before .before .before .before .before .before .args .m .now)) mostDepth s 1)) (c .before .before .before .before .before .before .before .before .before .pre .1 .1)) (c .if2 .taken))
+returns-2 c =
+    let h = c .before .before .before .before .before .before .before .before .before .pre in
+    let a = c .before .before .before .before .before .before .before .before .before .args in
+    let root-test = c .before .before .before .before .before .before .root-test in
+    let first = c .before .before .before .before .before .if1 in
+    rw (h .1 .0, yes (root-test .ensures) (first .left), no (c .before .before .before .tree-test .ensures ∙ ap (λ (s : Seen). judged (a .b) (a .m .now) (W.judge (children (a .b) (a .m .now)) (own (a .b) (a .m .now)) (partitionTest (a .b) (a .m .now)) mostDepth s 1)) (h .1 .1)) (c .if2 .taken))
 
 current-requires : tie.Need-current-requires
 current-requires c κs = search needs
@@ -41,7 +49,14 @@ same-length-2 c = search needs
 
 returns-3 : tie.Need-returns-3
 unfolding quickTest
-returns-3 c = rw (c .before .before .before .before .before .before .before .before .before .before .before .pre .1 .0, yes (c .before .before .before .before .before .before .before .before .root-test .ensures) (c .before .before .before .before .before .before .before .if1 .left), yes (c .before .before .before .before .before .tree-test .ensures ∙ ap (λ (s : Seen). judged (c .before .before .before .before .before .before .before .before .before .before .before .args .b) (c .before .before .before .before .before .before .before .before .before .before .before .args .m .now) (W.judge (children (c .before .before .before .before .before .before .before .before .before .before .before .args .b) (c .before .before .before .before .before .before .before .before .before .before .before .args .m .now)) (own (c .before .before .before .before .before .before .before .before .before .before .before .args .b) (c .before .before .before .before .before .before .before .before .before .before .before .args .m .now)) (partitionTest (c .before .before .before .before .before .before .before .before .before .before .before .args .b) (c .before .before .before .before .before .before .before .before .before .before .before .args .m .now)) mostDepth s 1)) (c .before .before .before .before .before .before .before .before .before .before .before .pre .1 .1)) (c .before .before .if2 .left)) (c .under .ensures ∙ ap (under (c .before .before .before .before .before .before .before .before .before .before .before .args .b) (c .before .before .before .before .before .before .before .before .before .before .before .args .m .now) mostDepth) (c .before .current .ensures))
+returns-3 c =
+    let h = c .before .before .before .before .before .before .before .before .before .before .before .pre in
+    let a = c .before .before .before .before .before .before .before .before .before .before .before .args in
+    let root-test = c .before .before .before .before .before .before .before .before .root-test in
+    let first = c .before .before .before .before .before .before .before .if1 in
+    let tree-test = c .before .before .before .before .before .tree-test in
+    rw (h .1 .0, yes (root-test .ensures) (first .left), yes (tree-test .ensures ∙ ap (λ (s : Seen). judged (a .b) (a .m .now) (W.judge (children (a .b) (a .m .now)) (own (a .b) (a .m .now)) (partitionTest (a .b) (a .m .now)) mostDepth s 1)) (h .1 .1)) (c .before .before .if2 .left))
+    (c .under .ensures ∙ ap (under (a .b) (a .m .now) mostDepth) (c .before .current .ensures))
 
 pub judged-with-spec : {M : Type 1} → statement M
 judged-with-spec =

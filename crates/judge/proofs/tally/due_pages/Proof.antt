@@ -12,7 +12,9 @@ returns : tie.Need-returns
 returns c = (rw (eq-eqb (c .before .before .args .w) 0 (c .if1 .taken)), omega arith)
 
 returns-2 : tie.Need-returns-2
-returns-2 c = (rw (ne-eqb (c .before .before .before .args .w) 0 (c .before .if1 .left), ne-eqb (c .before .before .before .args .x) 1 (c .if2 .taken)), omega arith)
+returns-2 c =
+    let s = c .before .before .before .args in
+    (rw (ne-eqb (s .w) 0 (c .before .if1 .left), ne-eqb (s .x) 1 (c .if2 .taken)), omega arith)
 
 page-of-requires : tie.Need-page-of-requires
 page-of-requires c κs = search needs
@@ -30,7 +32,12 @@ add-result : tie.Need-add-result
 add-result c = search needs
 
 returns-3 : tie.Need-returns-3
-returns-3 c = (rw (ne-eqb (c .before .before .before .before .before .args .w) 0 (c .before .before .before .if1 .left), eq-eqb (c .before .before .before .before .before .args .x) 1 (c .before .before .if2 .left)) (ap (λ (k : ℕ). 5 + 3 * k) (c .threes .ensures ∙ ap (threes (c .before .before .before .before .before .args .b) (c .before .before .before .before .before .args .m .now)) (c .before .page-of .ensures))), omega arith)
+returns-3 c =
+    let s = c .before .before .before .before .before .args in (
+      rw (ne-eqb (s .w) 0 (c .before .before .before .if1 .left), eq-eqb (s .x) 1 (c .before .before .if2 .left))
+          (ap (λ (k : ℕ). 5 + 3 * k) (c .threes .ensures ∙ ap (threes (s .b) (s .m .now)) (c .before .page-of .ensures))),
+      omega arith,
+    )
 
 pub due-pages-spec : {M : Type 1} → statement M
 due-pages-spec =

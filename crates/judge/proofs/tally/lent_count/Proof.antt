@@ -46,8 +46,12 @@ next-word-requires c κs = search needs
 loop-holds : tie.Need-loop-holds Inv-loop μ-loop
 loop-holds c =
     let s = c .before .before .before .before .before .before .args in
-    let dir = c .before .before .before .words-of .result .now in
-    (next-high (used dir) (length dir) 0 (omega arith) (c .next-word .ensures), next-here (used dir) (length dir) 0 (omega arith) (c .next-word .ensures), omega arith, λ d e e1. rows-first (s .b) (s .m .now) (adding (lentAt (s .b) (s .m .now) d (s .v))) d dir e 0 (lent-run (s .b) (s .m .now) d (s .v)) (c .next-word .ensures))
+    let dir = c .before .before .before .words-of .result .now in (
+      next-high (used dir) (length dir) 0 (omega arith) (c .next-word .ensures),
+      next-here (used dir) (length dir) 0 (omega arith) (c .next-word .ensures),
+      omega arith,
+      λ d e e1. rows-first (s .b) (s .m .now) (adding (lentAt (s .b) (s .m .now) d (s .v))) d dir e 0 (lent-run (s .b) (s .m .now) d (s .v)) (c .next-word .ensures),
+    )
 
 read-requires : tie.Need-read-requires Inv-loop μ-loop
 read-requires c κs = search needs
@@ -56,10 +60,18 @@ table-of-requires : tie.Need-table-of-requires Inv-loop μ-loop
 table-of-requires c κs = search needs
 
 lent-row-requires : tie.Need-lent-row-requires Inv-loop μ-loop
-lent-row-requires c κs = (c .before .before .before .before .before .before .before .before .before .before .pre, subst (λ (t : List ℕ). length t ≤ pageWords (c .before .before .before .before .before .before .before .before .before .before .args .b)) (sym (c .table-of .ensures)) (table-short (c .before .before .before .before .before .before .before .before .before .before .args .b) (c .before .before .before .before .before .before .before .before .before .before .args .m .now) (c .before .read .result)))
+lent-row-requires c κs =
+    let h = c .before .before .before .before .before .before .before .before .before .before .pre in
+    let s = c .before .before .before .before .before .before .before .before .before .before .args in
+    (h, subst (λ (t : List ℕ). length t ≤ pageWords (s .b)) (sym (c .table-of .ensures)) (table-short (s .b) (s .m .now) (c .before .read .result)))
 
 add-k : tie.Need-add-k Inv-loop μ-loop
-add-k c = omega (arith, c .lent-row .ensures .1, c .before .before .before .before .loop .inv .2, dir-short (c .before .before .before .before .before .before .before .before .before .before .before .args .b) (c .before .before .before .before .before .before .before .before .before .before .before .args .m .now) (c .before .before .before .before .before .before .before .before .before .directory .result .0) (c .before .before .before .before .before .before .before .before .words-of .ensures), words-most (c .before .before .before .before .before .before .before .before .before .before .before .args .b) (c .before .before .before .before .before .before .before .before .before .before .before .pre .1))
+add-k c =
+    let s = c .before .before .before .before .before .before .before .before .before .before .before .args in
+    let h = c .before .before .before .before .before .before .before .before .before .before .before .pre in
+    let directory = c .before .before .before .before .before .before .before .before .before .directory in
+    let words-of = c .before .before .before .before .before .before .before .before .words-of in
+    omega (arith, c .lent-row .ensures .1, c .before .before .before .before .loop .inv .2, dir-short (s .b) (s .m .now) (directory .result .0) (words-of .ensures), words-most (s .b) (h .1))
 
 add-next-word : tie.Need-add-next-word Inv-loop μ-loop
 add-next-word c = search needs
@@ -68,19 +80,33 @@ next-word-requires-2 : tie.Need-next-word-requires-2 Inv-loop μ-loop
 next-word-requires-2 c κs = search needs
 
 loop-less : tie.Need-loop-less Inv-loop μ-loop
-loop-less c = omega (arith, next-low (used (c .before .before .before .before .before .before .before .before .before .words-of .result .now)) (length (c .before .before .before .before .before .before .before .before .before .words-of .result .now)) (c .before .before .before .before .before .loop .i + 1) (c .next-word2 .ensures))
+loop-less c =
+    let words-of = c .before .before .before .before .before .before .before .before .before .words-of in
+    let p = c .before .before .before .before .before .loop in
+    omega (arith, next-low (used (words-of .result .now)) (length (words-of .result .now)) (p .i + 1) (c .next-word2 .ensures))
 
 loop-again : tie.Need-loop-again Inv-loop μ-loop
 loop-again c =
+    let words-of = c .before .before .before .before .before .before .before .before .before .words-of in
+    let p = c .before .before .before .before .before .loop in
+    let test = c .before .before .before .before .loop-test in
     let s = c .before .before .before .before .before .before .before .before .before .before .before .before .args in
-    let dir = c .before .before .before .before .before .before .before .before .before .words-of .result .now in
-    (next-high (used dir) (length dir) (c .before .before .before .before .before .loop .i + 1) (omega arith) (c .next-word2 .ensures), next-here (used dir) (length dir) (c .before .before .before .before .before .loop .i + 1) (omega arith) (c .next-word2 .ensures), omega (arith, next-low (used dir) (length dir) (c .before .before .before .before .before .loop .i + 1) (c .next-word2 .ensures), c .before .lent-row .ensures .1, c .before .before .before .before .before .loop .inv .2), λ d e e1. rows-next (s .b) (s .m .now) (adding (lentAt (s .b) (s .m .now) d (s .v))) d dir e (c .before .before .before .before .before .loop .k) (c .before .before .before .before .before .loop .k + c .before .lent-row .result) (c .before .before .before .before .loop-test .taken) (lent-row (s .b) (s .m .now) d (c .before .before .before .before .before .loop .i) e (c .before .before .before .before .loop-test .taken) (c .before .before .before .before .before .loop .inv .1 (c .before .before .before .before .loop-test .taken)) refl e1 (c .before .before .before .read .ensures) (c .before .before .table-of .ensures) (s .v) (c .before .before .before .before .before .loop .k) (c .before .lent-row .ensures .0)) (c .next-word2 .ensures) (c .before .before .before .before .before .loop .inv .3 d e e1))
+    let dir = words-of .result .now in (
+      next-high (used dir) (length dir) (p .i + 1) (omega arith) (c .next-word2 .ensures),
+      next-here (used dir) (length dir) (p .i + 1) (omega arith) (c .next-word2 .ensures),
+      omega (arith, next-low (used dir) (length dir) (p .i + 1) (c .next-word2 .ensures), c .before .lent-row .ensures .1, p .inv .2),
+      λ d e e1. rows-next (s .b) (s .m .now) (adding (lentAt (s .b) (s .m .now) d (s .v))) d dir e (p .k) (p .k + c .before .lent-row .result) (test .taken)
+          (lent-row (s .b) (s .m .now) d (p .i) e (test .taken) (p .inv .1 (test .taken)) refl e1 (c .before .before .before .read .ensures) (c .before .before .table-of .ensures) (s .v) (p .k) (c .before .lent-row .ensures .0))
+          (c .next-word2 .ensures) (p .inv .3 d e e1),
+    )
 
 returns : tie.Need-returns Inv-loop μ-loop
 returns c =
+    let directory = c .before .before .before .before .before .before .directory in
+    let words-of = c .before .before .before .before .before .words-of in
     let s = c .before .before .before .before .before .before .before .before .args in
-    let e = c .before .before .before .before .before .words-of .ensures ∙ ap (page (s .b) (s .m .now)) (c .before .before .before .before .before .before .directory .ensures) in
-    sym (rows-end (s .b) (s .m .now) (adding (lentAt (s .b) (s .m .now) (s .d .0) (s .v))) (s .d .0) (c .before .before .before .before .before .words-of .result .now) e (c .before .loop .k) (c .loop-test .left) (c .before .loop .inv .3 (s .d .0) e (c .before .before .before .words-of2 .ensures ∙ ap (page (s .b) (s .m .now)) (c .before .before .before .before .shadow1 .ensures))))
+    let e = words-of .ensures ∙ ap (page (s .b) (s .m .now)) (directory .ensures) in
+    sym (rows-end (s .b) (s .m .now) (adding (lentAt (s .b) (s .m .now) (s .d .0) (s .v))) (s .d .0) (words-of .result .now) e (c .before .loop .k) (c .loop-test .left) (c .before .loop .inv .3 (s .d .0) e (c .before .before .before .words-of2 .ensures ∙ ap (page (s .b) (s .m .now)) (c .before .before .before .before .shadow1 .ensures))))
 
 pub lent-count-spec : {M : Type 1} → statement M
 lent-count-spec =

@@ -22,15 +22,18 @@ sub-result c = search needs
 
 add-result : tie.Need-add-result
 add-result c =
-    let s = c .before .before .before .before .args in omega (arith, c .before .before .before .before .pre .1, words-most (s .b) (c .before .before .before .before .pre .0 .1), c .page-words .ensures .0, c .before .before .count-of .ensures, count-most (s .v) (s .s1 .now))
+    let h = c .before .before .before .before .pre in
+    let s = c .before .before .before .before .args in omega (arith, h .1, words-most (s .b) (h .0 .1), c .page-words .ensures .0, c .before .before .count-of .ensures, count-most (s .v) (s .s1 .now))
 
 returns : tie.Need-returns
 returns c =
-    let s = c .before .before .before .before .args in count-zero (s .s1 .now) (pageWords (s .b)) (s .v) (c .before .before .before .before .pre .1) (words-most (s .b) (c .before .before .before .before .pre .0 .1)) (c .before .before .count-of .ensures) (c .before .if1 .taken) (c .page-words .ensures .0)
+    let h = c .before .before .before .before .pre in
+    let s = c .before .before .before .before .args in count-zero (s .s1 .now) (pageWords (s .b)) (s .v) (h .1) (words-most (s .b) (h .0 .1)) (c .before .before .count-of .ensures) (c .before .if1 .taken) (c .page-words .ensures .0)
 
 returns-2 : tie.Need-returns-2
 returns-2 c =
-    let s = c .before .before .before .args in count-other (s .s1 .now) (pageWords (s .b)) (s .v) (c .before .before .before .pre .1) (words-most (s .b) (c .before .before .before .pre .0 .1)) (c .before .count-of .ensures) (c .if1 .left)
+    let h = c .before .before .before .pre in
+    let s = c .before .before .before .args in count-other (s .s1 .now) (pageWords (s .b)) (s .v) (h .1) (words-most (s .b) (h .0 .1)) (c .before .count-of .ensures) (c .if1 .left)
 
 pub lent-row-spec : {M : Type 1} → statement M
 lent-row-spec =

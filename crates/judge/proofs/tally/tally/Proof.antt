@@ -48,8 +48,15 @@ next-word-requires c κs = search needs
 
 loop-holds : tie.Need-loop-holds Inv-loop μ-loop
 loop-holds c = let s = c .before .before .before .before .before .before .before .args in
-    let dir = c .before .before .before .words-of .result .now in
-    (next-high (used dir) (length dir) 0 (omega arith) (c .next-word .ensures), next-here (used dir) (length dir) 0 (omega arith) (c .next-word .ensures), omega arith, omega arith, omega arith, (λ d e e1. (rows-first (s .b) (s .m .now) (adding (mappedAt (s .b) (s .m .now) d)) d dir e 0 (mapped-run (s .b) (s .m .now) d) (c .next-word .ensures), rows-first (s .b) (s .m .now) (adding (shutAt (s .b) (s .m .now) d)) d dir e 0 (shut-run (s .b) (s .m .now) d) (c .next-word .ensures), rows-first (s .b) (s .m .now) (adding (dueAt (s .b) (s .m .now) d)) d dir e 0 (due-run (s .b) (s .m .now) d) (c .next-word .ensures), rows-first (s .b) (s .m .now) (handAt (s .b) (s .m .now) d) d dir e (some (s .seen .now)) (hands-run (s .b) (s .m .now) d (s .seen .now)) (c .next-word .ensures))), refl)
+    let dir = c .before .before .before .words-of .result .now in (
+      next-high (used dir) (length dir) 0 (omega arith) (c .next-word .ensures),
+      next-here (used dir) (length dir) 0 (omega arith) (c .next-word .ensures),
+      omega arith,
+      omega arith,
+      omega arith,
+      (λ d e e1. (rows-first (s .b) (s .m .now) (adding (mappedAt (s .b) (s .m .now) d)) d dir e 0 (mapped-run (s .b) (s .m .now) d) (c .next-word .ensures), rows-first (s .b) (s .m .now) (adding (shutAt (s .b) (s .m .now) d)) d dir e 0 (shut-run (s .b) (s .m .now) d) (c .next-word .ensures), rows-first (s .b) (s .m .now) (adding (dueAt (s .b) (s .m .now) d)) d dir e 0 (due-run (s .b) (s .m .now) d) (c .next-word .ensures), rows-first (s .b) (s .m .now) (handAt (s .b) (s .m .now) d) d dir e (some (s .seen .now)) (hands-run (s .b) (s .m .now) d (s .seen .now)) (c .next-word .ensures))),
+      refl,
+    )
 
 mul-table-of : tie.Need-mul-table-of Inv-loop μ-loop
 mul-table-of c = search needs
@@ -67,53 +74,131 @@ table-of-requires-2 : tie.Need-table-of-requires-2 Inv-loop μ-loop
 table-of-requires-2 c κs = search needs
 
 tally-row-requires : tie.Need-tally-row-requires Inv-loop μ-loop
-tally-row-requires c κs = (c .before .before .before .before .before .before .before .before .before .before .before .before .before .before .pre, subst (λ (t : List ℕ). length t ≤ pageWords (c .before .before .before .before .before .before .before .before .before .before .before .before .before .before .args .b)) (sym (c .before .before .before .table-of .ensures)) (table-short (c .before .before .before .before .before .before .before .before .before .before .before .before .before .before .args .b) (c .before .before .before .before .before .before .before .before .before .before .before .before .before .before .args .m .now) (getD (c .before .before .before .before .before .before .before .before .before .before .words-of .result .now) (c .before .before .before .before .before .before .loop .i) 0)))
+tally-row-requires c κs =
+    let h = c .before .before .before .before .before .before .before .before .before .before .before .before .before .before .pre in
+    let s = c .before .before .before .before .before .before .before .before .before .before .before .before .before .before .args in
+    let words-of = c .before .before .before .before .before .before .before .before .before .before .words-of in
+    let p = c .before .before .before .before .before .before .loop in (
+      h,
+      subst (λ (t : List ℕ). length t ≤ pageWords (s .b)) (sym (c .before .before .before .table-of .ensures))
+          (table-short (s .b) (s .m .now) (getD (words-of .result .now) (p .i) 0)),
+    )
 
 same-length : tie.Need-same-length Inv-loop μ-loop
 same-length c = search needs
 
 returns : tie.Need-returns Inv-loop μ-loop
 returns c =
+    let directory = c .before .before .before .before .before .before .before .before .before .before .before .before .before .before .before .before .directory in
+    let words-of = c .before .before .before .before .before .before .before .before .before .before .before .before .before .before .before .words-of in
+    let shadow1 = c .before .before .before .before .before .before .before .before .before .before .before .before .before .before .shadow1 in
+    let words-of2 = c .before .before .before .before .before .before .before .before .before .before .before .before .before .words-of2 in
+    let p = c .before .before .before .before .before .before .before .before .before .before .before .loop in
+    let test = c .before .before .before .before .before .before .before .before .before .before .loop-test in
+    let table-of = c .before .before .before .before .before .before .before .before .table-of in
+    let read = c .before .before .before .before .before .before .before .read in
+    let table-of2 = c .before .before .before .before .before .before .table-of2 in
+    let tally-row = c .before .before .before .before .tally-row in
     let s = c .before .before .before .before .before .before .before .before .before .before .before .before .before .before .before .before .before .before .before .args in
-    let e = c .before .before .before .before .before .before .before .before .before .before .before .before .before .before .before .words-of .ensures ∙ ap (page (s .b) (s .m .now)) (c .before .before .before .before .before .before .before .before .before .before .before .before .before .before .before .before .directory .ensures) in
-    let e1 = c .before .before .before .before .before .before .before .before .before .before .before .before .before .words-of2 .ensures ∙ ap (page (s .b) (s .m .now)) (c .before .before .before .before .before .before .before .before .before .before .before .before .before .before .shadow1 .ensures) in
-    let marked = not-true (c .before .before .before .before .tally-row .result .marked) (c .if1 .taken) in
-    (rows-stop (s .b) (s .m .now) (inHand (s .b) (s .m .now) (s .d .0)) (λ t v. mark t (pageOf (s .b) (mapping (s .b) (s .m .now) (s .d .0) v))) (s .d .0) (c .before .before .before .before .before .before .before .before .before .before .before .before .before .before .before .words-of .result .now) e (c .before .before .before .before .before .before .before .before .before .before .before .loop .i) (some (c .before .before .before .before .before .before .before .before .before .before .before .loop .seen)) (c .before .before .before .before .before .before .before .before .before .before .loop-test .taken) (hands-row (s .b) (s .m .now) (s .d .0) (c .before .before .before .before .before .before .before .before .before .before .before .loop .i) e (c .before .before .before .before .before .before .before .before .before .before .loop-test .taken) (c .before .before .before .before .before .before .before .before .before .before .before .loop .inv .1 (c .before .before .before .before .before .before .before .before .before .before .loop-test .taken)) (c .before .before .before .before .before .before .before .before .table-of .ensures) e1 (c .before .before .before .before .before .before .before .read .ensures) (c .before .before .before .before .before .before .table-of2 .ensures) (some (c .before .before .before .before .before .before .before .before .before .before .before .loop .seen)) ∙ failed _ (c .before .before .before .before .tally-row .result .marked) (c .before .before .before .before .tally-row .last .1 .1 .0) (c .before .before .before .before .tally-row .ensures .0) marked) (c .before .before .before .before .before .before .before .before .before .before .before .loop .inv .5 (s .d .0) e e1 .3) ∙ sym (ap (λ (t : Bool). answer t (c .before .before .before .before .tally-row .last .1 .1 .0)) marked), λ z. absurd (false≢true (sym marked ∙ z)))
+    let e = words-of .ensures ∙ ap (page (s .b) (s .m .now)) (directory .ensures) in
+    let e1 = words-of2 .ensures ∙ ap (page (s .b) (s .m .now)) (shadow1 .ensures) in
+    let marked = not-true (tally-row .result .marked) (c .if1 .taken) in (
+      rows-stop (s .b) (s .m .now) (inHand (s .b) (s .m .now) (s .d .0)) (λ t v. mark t (pageOf (s .b) (mapping (s .b) (s .m .now) (s .d .0) v))) (s .d .0)
+          (words-of .result .now) e (p .i) (some (p .seen)) (test .taken)
+          (hands-row (s .b) (s .m .now) (s .d .0) (p .i) e (test .taken) (p .inv .1 (test .taken)) (table-of .ensures) e1 (read .ensures) (table-of2 .ensures) (some (p .seen)) ∙ failed _ (tally-row .result .marked) (tally-row .last .1 .1 .0) (tally-row .ensures .0) marked)
+          (p .inv .5 (s .d .0) e e1 .3) ∙ sym (ap (λ (t : Bool). answer t (tally-row .last .1 .1 .0)) marked),
+      λ z. absurd (false≢true (sym marked ∙ z)),
+    )
 
 add-mapped : tie.Need-add-mapped Inv-loop μ-loop
-add-mapped c = omega (arith, c .before .before .before .before .before .tally-row .ensures .1 (not-false _ (c .before .if1 .left)) .3, c .before .before .before .before .before .before .before .before .before .before .before .before .loop .inv .2, c .before .before .before .before .before .before .before .before .before .before .before .loop-test .taken, dir-short (c .before .before .before .before .before .before .before .before .before .before .before .before .before .before .before .before .before .before .before .before .args .b) (c .before .before .before .before .before .before .before .before .before .before .before .before .before .before .before .before .before .before .before .before .args .m .now) (c .before .before .before .before .before .before .before .before .before .before .before .before .before .before .before .before .before .directory .result .0) (c .before .before .before .before .before .before .before .before .before .before .before .before .before .before .before .before .words-of .ensures), words-most (c .before .before .before .before .before .before .before .before .before .before .before .before .before .before .before .before .before .before .before .before .args .b) (c .before .before .before .before .before .before .before .before .before .before .before .before .before .before .before .before .before .before .before .before .pre .1))
+add-mapped c =
+    let s = c .before .before .before .before .before .before .before .before .before .before .before .before .before .before .before .before .before .before .before .before .args in
+    let h = c .before .before .before .before .before .before .before .before .before .before .before .before .before .before .before .before .before .before .before .before .pre in
+    let directory = c .before .before .before .before .before .before .before .before .before .before .before .before .before .before .before .before .before .directory in
+    let words-of = c .before .before .before .before .before .before .before .before .before .before .before .before .before .before .before .before .words-of in
+    let p = c .before .before .before .before .before .before .before .before .before .before .before .before .loop in
+    let test = c .before .before .before .before .before .before .before .before .before .before .before .loop-test in
+    let tally-row = c .before .before .before .before .before .tally-row in
+    omega (arith, tally-row .ensures .1 (not-false _ (c .before .if1 .left)) .3, p .inv .2, test .taken, dir-short (s .b) (s .m .now) (directory .result .0) (words-of .ensures), words-most (s .b) (h .1))
 
 add-shut : tie.Need-add-shut Inv-loop μ-loop
-add-shut c = omega (arith, c .before .before .before .before .before .before .tally-row .ensures .1 (not-false _ (c .before .before .if1 .left)) .4, c .before .before .before .before .before .before .before .before .before .before .before .before .before .loop .inv .3, c .before .before .before .before .before .before .before .before .before .before .before .before .loop-test .taken, dir-short (c .before .before .before .before .before .before .before .before .before .before .before .before .before .before .before .before .before .before .before .before .before .args .b) (c .before .before .before .before .before .before .before .before .before .before .before .before .before .before .before .before .before .before .before .before .before .args .m .now) (c .before .before .before .before .before .before .before .before .before .before .before .before .before .before .before .before .before .before .directory .result .0) (c .before .before .before .before .before .before .before .before .before .before .before .before .before .before .before .before .before .words-of .ensures), words-most (c .before .before .before .before .before .before .before .before .before .before .before .before .before .before .before .before .before .before .before .before .before .args .b) (c .before .before .before .before .before .before .before .before .before .before .before .before .before .before .before .before .before .before .before .before .before .pre .1))
+add-shut c =
+    let s = c .before .before .before .before .before .before .before .before .before .before .before .before .before .before .before .before .before .before .before .before .before .args in
+    let h = c .before .before .before .before .before .before .before .before .before .before .before .before .before .before .before .before .before .before .before .before .before .pre in
+    let directory = c .before .before .before .before .before .before .before .before .before .before .before .before .before .before .before .before .before .before .directory in
+    let words-of = c .before .before .before .before .before .before .before .before .before .before .before .before .before .before .before .before .before .words-of in
+    let p = c .before .before .before .before .before .before .before .before .before .before .before .before .before .loop in
+    let test = c .before .before .before .before .before .before .before .before .before .before .before .before .loop-test in
+    let tally-row = c .before .before .before .before .before .before .tally-row in
+    omega (arith, tally-row .ensures .1 (not-false _ (c .before .before .if1 .left)) .4, p .inv .3, test .taken, dir-short (s .b) (s .m .now) (directory .result .0) (words-of .ensures), words-most (s .b) (h .1))
 
 add-due : tie.Need-add-due Inv-loop μ-loop
-add-due c = omega (arith, c .before .before .before .before .before .before .before .tally-row .ensures .1 (not-false _ (c .before .before .before .if1 .left)) .5, c .before .before .before .before .before .before .before .before .before .before .before .before .before .before .loop .inv .4, c .before .before .before .before .before .before .before .before .before .before .before .before .before .loop-test .taken, dir-short (c .before .before .before .before .before .before .before .before .before .before .before .before .before .before .before .before .before .before .before .before .before .before .args .b) (c .before .before .before .before .before .before .before .before .before .before .before .before .before .before .before .before .before .before .before .before .before .before .args .m .now) (c .before .before .before .before .before .before .before .before .before .before .before .before .before .before .before .before .before .before .before .directory .result .0) (c .before .before .before .before .before .before .before .before .before .before .before .before .before .before .before .before .before .before .words-of .ensures), words-most (c .before .before .before .before .before .before .before .before .before .before .before .before .before .before .before .before .before .before .before .before .before .before .args .b) (c .before .before .before .before .before .before .before .before .before .before .before .before .before .before .before .before .before .before .before .before .before .before .pre .1))
+add-due c =
+    let s = c .before .before .before .before .before .before .before .before .before .before .before .before .before .before .before .before .before .before .before .before .before .before .args in
+    let h = c .before .before .before .before .before .before .before .before .before .before .before .before .before .before .before .before .before .before .before .before .before .before .pre in
+    let directory = c .before .before .before .before .before .before .before .before .before .before .before .before .before .before .before .before .before .before .before .directory in
+    let words-of = c .before .before .before .before .before .before .before .before .before .before .before .before .before .before .before .before .before .before .words-of in
+    let p = c .before .before .before .before .before .before .before .before .before .before .before .before .before .before .loop in
+    let test = c .before .before .before .before .before .before .before .before .before .before .before .before .before .loop-test in
+    let tally-row = c .before .before .before .before .before .before .before .tally-row in
+    omega (arith, tally-row .ensures .1 (not-false _ (c .before .before .before .if1 .left)) .5, p .inv .4, test .taken, dir-short (s .b) (s .m .now) (directory .result .0) (words-of .ensures), words-most (s .b) (h .1))
 
 add-next-word : tie.Need-add-next-word Inv-loop μ-loop
-add-next-word c = omega (arith, c .before .before .before .before .before .before .before .before .before .before .before .before .before .loop-test .taken, dir-short (c .before .before .before .before .before .before .before .before .before .before .before .before .before .before .before .before .before .before .before .before .before .before .args .b) (c .before .before .before .before .before .before .before .before .before .before .before .before .before .before .before .before .before .before .before .before .before .before .args .m .now) (c .before .before .before .before .before .before .before .before .before .before .before .before .before .before .before .before .before .before .before .directory .result .0) (c .before .before .before .before .before .before .before .before .before .before .before .before .before .before .before .before .before .before .words-of .ensures), words-most (c .before .before .before .before .before .before .before .before .before .before .before .before .before .before .before .before .before .before .before .before .before .before .args .b) (c .before .before .before .before .before .before .before .before .before .before .before .before .before .before .before .before .before .before .before .before .before .before .pre .1))
+add-next-word c =
+    let s = c .before .before .before .before .before .before .before .before .before .before .before .before .before .before .before .before .before .before .before .before .before .before .args in
+    let h = c .before .before .before .before .before .before .before .before .before .before .before .before .before .before .before .before .before .before .before .before .before .before .pre in
+    let directory = c .before .before .before .before .before .before .before .before .before .before .before .before .before .before .before .before .before .before .before .directory in
+    let words-of = c .before .before .before .before .before .before .before .before .before .before .before .before .before .before .before .before .before .before .words-of in
+    let test = c .before .before .before .before .before .before .before .before .before .before .before .before .before .loop-test in
+    omega (arith, test .taken, dir-short (s .b) (s .m .now) (directory .result .0) (words-of .ensures), words-most (s .b) (h .1))
 
 next-word-requires-2 : tie.Need-next-word-requires-2 Inv-loop μ-loop
 next-word-requires-2 c κs = search needs
 
 loop-less : tie.Need-loop-less Inv-loop μ-loop
-loop-less c = omega (arith, c .before .before .before .before .before .before .before .before .before .before .before .before .before .before .loop-test .taken, next-low (used (c .before .before .before .before .before .before .before .before .before .before .before .before .before .before .before .before .before .before .before .words-of .result .now)) (length (c .before .before .before .before .before .before .before .before .before .before .before .before .before .before .before .before .before .before .before .words-of .result .now)) (c .before .before .before .before .before .before .before .before .before .before .before .before .before .before .before .loop .i + 1) (c .next-word2 .ensures))
+loop-less c =
+    let words-of = c .before .before .before .before .before .before .before .before .before .before .before .before .before .before .before .before .before .before .before .words-of in
+    let p = c .before .before .before .before .before .before .before .before .before .before .before .before .before .before .before .loop in
+    let test = c .before .before .before .before .before .before .before .before .before .before .before .before .before .before .loop-test in
+    omega (arith, test .taken, next-low (used (words-of .result .now)) (length (words-of .result .now)) (p .i + 1) (c .next-word2 .ensures))
 
 loop-again : tie.Need-loop-again Inv-loop μ-loop
-loop-again c = let s = c .before .before .before .before .before .before .before .before .before .before .before .before .before .before .before .before .before .before .before .before .before .before .before .args in
-    let dir = c .before .before .before .before .before .before .before .before .before .before .before .before .before .before .before .before .before .before .before .words-of .result .now in
-    let low = next-low (used dir) (length dir) (c .before .before .before .before .before .before .before .before .before .before .before .before .before .before .before .loop .i + 1) (c .next-word2 .ensures) in
-    (next-high (used dir) (length dir) (c .before .before .before .before .before .before .before .before .before .before .before .before .before .before .before .loop .i + 1) (omega (arith, c .before .before .before .before .before .before .before .before .before .before .before .before .before .before .loop-test .taken)) (c .next-word2 .ensures), next-here (used dir) (length dir) (c .before .before .before .before .before .before .before .before .before .before .before .before .before .before .before .loop .i + 1) (omega (arith, c .before .before .before .before .before .before .before .before .before .before .before .before .before .before .loop-test .taken)) (c .next-word2 .ensures), omega (arith, low, c .before .before .before .before .before .before .before .before .tally-row .ensures .1 (not-false _ (c .before .before .before .before .if1 .left)) .3, c .before .before .before .before .before .before .before .before .before .before .before .before .before .before .before .loop .inv .2), omega (arith, low, c .before .before .before .before .before .before .before .before .tally-row .ensures .1 (not-false _ (c .before .before .before .before .if1 .left)) .4, c .before .before .before .before .before .before .before .before .before .before .before .before .before .before .before .loop .inv .3), omega (arith, low, c .before .before .before .before .before .before .before .before .tally-row .ensures .1 (not-false _ (c .before .before .before .before .if1 .left)) .5, c .before .before .before .before .before .before .before .before .before .before .before .before .before .before .before .loop .inv .4), (λ d e e1. (rows-next (s .b) (s .m .now) (adding (mappedAt (s .b) (s .m .now) d)) d dir e (c .before .before .before .before .before .before .before .before .before .before .before .before .before .before .before .loop .mapped) (c .before .before .before .before .before .before .before .before .before .before .before .before .before .before .before .loop .mapped + c .before .before .before .before .before .before .before .before .tally-row .result .mapped) (c .before .before .before .before .before .before .before .before .before .before .before .before .before .before .loop-test .taken) (mapped-row (s .b) (s .m .now) d (c .before .before .before .before .before .before .before .before .before .before .before .before .before .before .before .loop .i) e (c .before .before .before .before .before .before .before .before .before .before .before .before .before .before .loop-test .taken) (c .before .before .before .before .before .before .before .before .before .before .before .before .before .before .before .loop .inv .1 (c .before .before .before .before .before .before .before .before .before .before .before .before .before .before .loop-test .taken)) (c .before .before .before .before .before .before .before .before .before .before .before .before .table-of .ensures) (c .before .before .before .before .before .before .before .before .before .before .before .before .before .before .before .loop .mapped) (c .before .before .before .before .before .before .before .before .tally-row .ensures .1 (not-false _ (c .before .before .before .before .if1 .left)) .0)) (c .next-word2 .ensures) (c .before .before .before .before .before .before .before .before .before .before .before .before .before .before .before .loop .inv .5 d e e1 .0), rows-next (s .b) (s .m .now) (adding (shutAt (s .b) (s .m .now) d)) d dir e (c .before .before .before .before .before .before .before .before .before .before .before .before .before .before .before .loop .shut) (c .before .before .before .before .before .before .before .before .before .before .before .before .before .before .before .loop .shut + c .before .before .before .before .before .before .before .before .tally-row .result .shut) (c .before .before .before .before .before .before .before .before .before .before .before .before .before .before .loop-test .taken) (shut-row (s .b) (s .m .now) d (c .before .before .before .before .before .before .before .before .before .before .before .before .before .before .before .loop .i) e (c .before .before .before .before .before .before .before .before .before .before .before .before .before .before .loop-test .taken) (c .before .before .before .before .before .before .before .before .before .before .before .before .before .before .before .loop .inv .1 (c .before .before .before .before .before .before .before .before .before .before .before .before .before .before .loop-test .taken)) (c .before .before .before .before .before .before .before .before .before .before .before .before .table-of .ensures) e1 (c .before .before .before .before .before .before .before .before .before .before .before .read .ensures) (c .before .before .before .before .before .before .before .before .before .before .table-of2 .ensures) (c .before .before .before .before .before .before .before .before .before .before .before .before .before .before .before .loop .shut) (c .before .before .before .before .before .before .before .before .tally-row .ensures .1 (not-false _ (c .before .before .before .before .if1 .left)) .1)) (c .next-word2 .ensures) (c .before .before .before .before .before .before .before .before .before .before .before .before .before .before .before .loop .inv .5 d e e1 .1), rows-next (s .b) (s .m .now) (adding (dueAt (s .b) (s .m .now) d)) d dir e (c .before .before .before .before .before .before .before .before .before .before .before .before .before .before .before .loop .due) (c .before .before .before .before .before .before .before .before .before .before .before .before .before .before .before .loop .due + c .before .before .before .before .before .before .before .before .tally-row .result .due) (c .before .before .before .before .before .before .before .before .before .before .before .before .before .before .loop-test .taken) (due-row (s .b) (s .m .now) d (c .before .before .before .before .before .before .before .before .before .before .before .before .before .before .before .loop .i) e (c .before .before .before .before .before .before .before .before .before .before .before .before .before .before .loop-test .taken) (c .before .before .before .before .before .before .before .before .before .before .before .before .before .before .before .loop .inv .1 (c .before .before .before .before .before .before .before .before .before .before .before .before .before .before .loop-test .taken)) (c .before .before .before .before .before .before .before .before .before .before .before .before .table-of .ensures) e1 (c .before .before .before .before .before .before .before .before .before .before .before .read .ensures) (c .before .before .before .before .before .before .before .before .before .before .table-of2 .ensures) (c .before .before .before .before .before .before .before .before .before .before .before .before .before .before .before .loop .due) (c .before .before .before .before .before .before .before .before .tally-row .ensures .1 (not-false _ (c .before .before .before .before .if1 .left)) .2)) (c .next-word2 .ensures) (c .before .before .before .before .before .before .before .before .before .before .before .before .before .before .before .loop .inv .5 d e e1 .2), rows-next (s .b) (s .m .now) (handAt (s .b) (s .m .now) d) d dir e (some (c .before .before .before .before .before .before .before .before .before .before .before .before .before .before .before .loop .seen)) (some (c .before .before .before .before .before .before .before .before .tally-row .last .1 .1 .0)) (c .before .before .before .before .before .before .before .before .before .before .before .before .before .before .loop-test .taken) (sym (hands-row (s .b) (s .m .now) d (c .before .before .before .before .before .before .before .before .before .before .before .before .before .before .before .loop .i) e (c .before .before .before .before .before .before .before .before .before .before .before .before .before .before .loop-test .taken) (c .before .before .before .before .before .before .before .before .before .before .before .before .before .before .before .loop .inv .1 (c .before .before .before .before .before .before .before .before .before .before .before .before .before .before .loop-test .taken)) (c .before .before .before .before .before .before .before .before .before .before .before .before .table-of .ensures) e1 (c .before .before .before .before .before .before .before .before .before .before .before .read .ensures) (c .before .before .before .before .before .before .before .before .before .before .table-of2 .ensures) (some (c .before .before .before .before .before .before .before .before .before .before .before .before .before .before .before .loop .seen)) ∙ passed _ (c .before .before .before .before .before .before .before .before .tally-row .result .marked) _ (c .before .before .before .before .before .before .before .before .tally-row .ensures .0) (not-false _ (c .before .before .before .before .if1 .left)))) (c .next-word2 .ensures) (c .before .before .before .before .before .before .before .before .before .before .before .before .before .before .before .loop .inv .5 d e e1 .3))), c .before .before .before .before .before .before .before .before .tally-row .kept .1 .1 .0 ∙ c .before .before .before .before .before .before .before .before .before .before .before .before .before .before .before .loop .inv .6)
+loop-again c =
+    let words-of = c .before .before .before .before .before .before .before .before .before .before .before .before .before .before .before .before .before .before .before .words-of in
+    let p = c .before .before .before .before .before .before .before .before .before .before .before .before .before .before .before .loop in
+    let test = c .before .before .before .before .before .before .before .before .before .before .before .before .before .before .loop-test in
+    let table-of = c .before .before .before .before .before .before .before .before .before .before .before .before .table-of in
+    let read = c .before .before .before .before .before .before .before .before .before .before .before .read in
+    let table-of2 = c .before .before .before .before .before .before .before .before .before .before .table-of2 in
+    let tally-row = c .before .before .before .before .before .before .before .before .tally-row in
+    let first = c .before .before .before .before .if1 in
+    let s = c .before .before .before .before .before .before .before .before .before .before .before .before .before .before .before .before .before .before .before .before .before .before .before .args in
+    let dir = words-of .result .now in
+    let low = next-low (used dir) (length dir) (p .i + 1) (c .next-word2 .ensures) in (
+      next-high (used dir) (length dir) (p .i + 1) (omega (arith, test .taken)) (c .next-word2 .ensures),
+      next-here (used dir) (length dir) (p .i + 1) (omega (arith, test .taken)) (c .next-word2 .ensures),
+      omega (arith, low, tally-row .ensures .1 (not-false _ (first .left)) .3, p .inv .2),
+      omega (arith, low, tally-row .ensures .1 (not-false _ (first .left)) .4, p .inv .3),
+      omega (arith, low, tally-row .ensures .1 (not-false _ (first .left)) .5, p .inv .4),
+      (λ d e e1. (rows-next (s .b) (s .m .now) (adding (mappedAt (s .b) (s .m .now) d)) d dir e (p .mapped) (p .mapped + tally-row .result .mapped) (test .taken) (mapped-row (s .b) (s .m .now) d (p .i) e (test .taken) (p .inv .1 (test .taken)) (table-of .ensures) (p .mapped) (tally-row .ensures .1 (not-false _ (first .left)) .0)) (c .next-word2 .ensures) (p .inv .5 d e e1 .0), rows-next (s .b) (s .m .now) (adding (shutAt (s .b) (s .m .now) d)) d dir e (p .shut) (p .shut + tally-row .result .shut) (test .taken) (shut-row (s .b) (s .m .now) d (p .i) e (test .taken) (p .inv .1 (test .taken)) (table-of .ensures) e1 (read .ensures) (table-of2 .ensures) (p .shut) (tally-row .ensures .1 (not-false _ (first .left)) .1)) (c .next-word2 .ensures) (p .inv .5 d e e1 .1), rows-next (s .b) (s .m .now) (adding (dueAt (s .b) (s .m .now) d)) d dir e (p .due) (p .due + tally-row .result .due) (test .taken) (due-row (s .b) (s .m .now) d (p .i) e (test .taken) (p .inv .1 (test .taken)) (table-of .ensures) e1 (read .ensures) (table-of2 .ensures) (p .due) (tally-row .ensures .1 (not-false _ (first .left)) .2)) (c .next-word2 .ensures) (p .inv .5 d e e1 .2), rows-next (s .b) (s .m .now) (handAt (s .b) (s .m .now) d) d dir e (some (p .seen)) (some (tally-row .last .1 .1 .0)) (test .taken) (sym (hands-row (s .b) (s .m .now) d (p .i) e (test .taken) (p .inv .1 (test .taken)) (table-of .ensures) e1 (read .ensures) (table-of2 .ensures) (some (p .seen)) ∙ passed _ (tally-row .result .marked) _ (tally-row .ensures .0) (not-false _ (first .left)))) (c .next-word2 .ensures) (p .inv .5 d e e1 .3))),
+      tally-row .kept .1 .1 .0 ∙ p .inv .6,
+    )
 
 same-length-2 : tie.Need-same-length-2 Inv-loop μ-loop
 same-length-2 c = search needs
 
 returns-2 : tie.Need-returns-2 Inv-loop μ-loop
-returns-2 c = let s = c .before .before .before .before .before .before .before .before .before .args in
-    let dir = c .before .before .before .before .before .words-of .result .now in
-    let e = c .before .before .before .before .before .words-of .ensures ∙ ap (page (s .b) (s .m .now)) (c .before .before .before .before .before .before .directory .ensures) in
+returns-2 c =
+    let directory = c .before .before .before .before .before .before .directory in
+    let words-of = c .before .before .before .before .before .words-of in
+    let s = c .before .before .before .before .before .before .before .before .before .args in
+    let dir = words-of .result .now in
+    let e = words-of .ensures ∙ ap (page (s .b) (s .m .now)) (directory .ensures) in
     let e1 = c .before .before .before .words-of2 .ensures ∙ ap (page (s .b) (s .m .now)) (c .before .before .before .before .shadow1 .ensures) in
-    let i = c .before .loop .inv .5 (s .d .0) e e1 in
-    (rows-end (s .b) (s .m .now) (handAt (s .b) (s .m .now) (s .d .0)) (s .d .0) dir e (some (c .before .loop .seen)) (c .loop-test .left) (i .3), λ z. (sym (rows-end (s .b) (s .m .now) (adding (mappedAt (s .b) (s .m .now) (s .d .0))) (s .d .0) dir e (c .before .loop .mapped) (c .loop-test .left) (i .0)), sym (rows-end (s .b) (s .m .now) (adding (shutAt (s .b) (s .m .now) (s .d .0))) (s .d .0) dir e (c .before .loop .shut) (c .loop-test .left) (i .1)), sym (rows-end (s .b) (s .m .now) (adding (dueAt (s .b) (s .m .now) (s .d .0))) (s .d .0) dir e (c .before .loop .due) (c .loop-test .left) (i .2))))
+    let i = c .before .loop .inv .5 (s .d .0) e e1 in (
+      rows-end (s .b) (s .m .now) (handAt (s .b) (s .m .now) (s .d .0)) (s .d .0) dir e (some (c .before .loop .seen)) (c .loop-test .left) (i .3),
+      λ z. (sym (rows-end (s .b) (s .m .now) (adding (mappedAt (s .b) (s .m .now) (s .d .0))) (s .d .0) dir e (c .before .loop .mapped) (c .loop-test .left) (i .0)), sym (rows-end (s .b) (s .m .now) (adding (shutAt (s .b) (s .m .now) (s .d .0))) (s .d .0) dir e (c .before .loop .shut) (c .loop-test .left) (i .1)), sym (rows-end (s .b) (s .m .now) (adding (dueAt (s .b) (s .m .now) (s .d .0))) (s .d .0) dir e (c .before .loop .due) (c .loop-test .left) (i .2))),
+    )
 
 pub tally-spec : {M : Type 1} → statement M
 tally-spec =

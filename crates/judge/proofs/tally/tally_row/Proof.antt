@@ -37,10 +37,11 @@ loop-less c = search needs
 
 loop-again : tie.Need-loop-again Inv-loop μ-loop
 loop-again c =
+    let h = c .before .before .before .before .before .before .before .before .before .pre in
     let s = c .before .before .before .before .before .before .before .before .before .args in
     let p = c .before .before .before .before .loop in
     let e = sym (c .before .empty-block .ensures) ∙ c .if1 .taken in
-    tally-past (s .b) (s .m .now) (s .pt .now) (s .s1 .now) (c .before .before .before .before .before .before .before .before .before .pre .1) (p .inv) (p .j + 8) (omega arith)
+    tally-past (s .b) (s .m .now) (s .pt .now) (s .s1 .now) (h .1) (p .inv) (p .j + 8) (omega arith)
     (empty-end (length (s .pt .now)) (p .j) (s .pt .now) (omega arith) e) (empty-word (length (s .pt .now)) (p .j) (s .pt .now) (omega arith) e)
 
 add-j-2 : tie.Need-add-j-2 Inv-loop μ-loop
@@ -51,9 +52,10 @@ loop-less-2 c = search needs
 
 loop-again-2 : tie.Need-loop-again-2 Inv-loop μ-loop
 loop-again-2 c =
+    let h = c .before .before .before .before .before .before .before .before .before .before .pre in
     let s = c .before .before .before .before .before .before .before .before .before .before .args in
     let p = c .before .before .before .before .before .loop in
-    tally-past (s .b) (s .m .now) (s .pt .now) (s .s1 .now) (c .before .before .before .before .before .before .before .before .before .before .pre .1) (p .inv) (p .j + 1) (omega arith) (omega (arith, c .before .before .before .before .loop-test .taken))
+    tally-past (s .b) (s .m .now) (s .pt .now) (s .s1 .now) (h .1) (p .inv) (p .j + 1) (omega arith) (omega (arith, c .before .before .before .before .loop-test .taken))
     (λ x a l. let e : x ≡ p .j = omega arith in ap (λ (y : ℕ). getD (s .pt .now) y 0) e ∙ c .if2 .taken)
 
 read-requires : tie.Need-read-requires Inv-loop μ-loop
@@ -67,24 +69,44 @@ same-length c = search needs
 
 returns : tie.Need-returns Inv-loop μ-loop
 returns c =
+    let h = c .before .before .before .before .before .before .before .before .before .before .before .before .before .before .before .before .pre in
+    let p = c .before .before .before .before .before .before .before .before .before .before .before .loop in
+    let test = c .before .before .before .before .before .before .before .before .before .before .loop-test in
+    let second = c .before .before .before .before .before .before .if2 in
+    let read = c .before .before .before .before .before .read in
     let s = c .before .before .before .before .before .before .before .before .before .before .before .before .before .before .before .before .args in
-    let m = c .before .before .before .mark-hand in
-    (tally-stop (s .b) (s .m .now) (s .pt .now) (s .s1 .now) (c .before .before .before .before .before .before .before .before .before .before .before .before .before .before .before .before .pre .1) (c .before .before .before .before .before .before .before .before .before .before .before .loop .inv) (m .result) (m .last .1 .0) (c .before .before .before .before .before .before .before .before .before .before .loop-test .taken) refl (c .before .before .before .before .before .read .ensures) (c .before .before .before .before .before .before .if2 .left) (m .ensures) (c .if3 .taken), λ z. absurd (false≢true z))
+    let m = c .before .before .before .mark-hand in (
+      tally-stop (s .b) (s .m .now) (s .pt .now) (s .s1 .now) (h .1) (p .inv) (m .result) (m .last .1 .0) (test .taken) refl (read .ensures) (second .left) (m .ensures)
+          (c .if3 .taken),
+      λ z. absurd (false≢true z),
+    )
 
 add-mapped : tie.Need-add-mapped Inv-loop μ-loop
-add-mapped c = omega (arith, c .before .before .before .before .before .before .before .before .before .before .before .before .before .before .before .before .pre .1, words-most (c .before .before .before .before .before .before .before .before .before .before .before .before .before .before .before .before .args .b) (c .before .before .before .before .before .before .before .before .before .before .before .before .before .before .before .before .pre .0 .1), c .before .before .before .before .before .before .before .before .before .before .before .loop .inv .inside, c .before .before .before .before .before .before .before .before .before .before .before .loop .inv .mapped-most)
+add-mapped c =
+    let h = c .before .before .before .before .before .before .before .before .before .before .before .before .before .before .before .before .pre in
+    let s = c .before .before .before .before .before .before .before .before .before .before .before .before .before .before .before .before .args in
+    let p = c .before .before .before .before .before .before .before .before .before .before .before .loop in
+    omega (arith, h .1, words-most (s .b) (h .0 .1), p .inv .inside, p .inv .mapped-most)
 
 shut-bit-requires : tie.Need-shut-bit-requires Inv-loop μ-loop
 shut-bit-requires c κs = search needs
 
 add-shut : tie.Need-add-shut Inv-loop μ-loop
-add-shut c = omega (arith, c .before .before .before .before .before .before .before .before .before .before .before .before .before .before .before .before .before .pre .1, words-most (c .before .before .before .before .before .before .before .before .before .before .before .before .before .before .before .before .before .args .b) (c .before .before .before .before .before .before .before .before .before .before .before .before .before .before .before .before .before .pre .0 .1), c .before .before .before .before .before .before .before .before .before .before .before .before .loop .inv .inside, c .before .before .before .before .before .before .before .before .before .before .before .before .loop .inv .shut-most, c .shut-bit .ensures .1)
+add-shut c =
+    let h = c .before .before .before .before .before .before .before .before .before .before .before .before .before .before .before .before .before .pre in
+    let s = c .before .before .before .before .before .before .before .before .before .before .before .before .before .before .before .before .before .args in
+    let p = c .before .before .before .before .before .before .before .before .before .before .before .before .loop in
+    omega (arith, h .1, words-most (s .b) (h .0 .1), p .inv .inside, p .inv .shut-most, c .shut-bit .ensures .1)
 
 due-pages-requires : tie.Need-due-pages-requires Inv-loop μ-loop
 due-pages-requires c κs = search needs
 
 add-due : tie.Need-add-due Inv-loop μ-loop
-add-due c = omega (arith, c .before .before .before .before .before .before .before .before .before .before .before .before .before .before .before .before .before .before .pre .1, words-most (c .before .before .before .before .before .before .before .before .before .before .before .before .before .before .before .before .before .before .args .b) (c .before .before .before .before .before .before .before .before .before .before .before .before .before .before .before .before .before .before .pre .0 .1), c .before .before .before .before .before .before .before .before .before .before .before .before .before .loop .inv .inside, c .before .before .before .before .before .before .before .before .before .before .before .before .before .loop .inv .due-most, c .due-pages .ensures .1)
+add-due c =
+    let h = c .before .before .before .before .before .before .before .before .before .before .before .before .before .before .before .before .before .before .pre in
+    let s = c .before .before .before .before .before .before .before .before .before .before .before .before .before .before .before .before .before .before .args in
+    let p = c .before .before .before .before .before .before .before .before .before .before .before .before .before .loop in
+    omega (arith, h .1, words-most (s .b) (h .0 .1), p .inv .inside, p .inv .due-most, c .due-pages .ensures .1)
 
 add-j-3 : tie.Need-add-j-3 Inv-loop μ-loop
 add-j-3 c = search needs
@@ -94,9 +116,14 @@ loop-less-3 c = search needs
 
 loop-again-3 : tie.Need-loop-again-3 Inv-loop μ-loop
 loop-again-3 c =
+    let h = c .before .before .before .before .before .before .before .before .before .before .before .before .before .before .before .before .before .before .pre in
+    let p = c .before .before .before .before .before .before .before .before .before .before .before .before .before .loop in
+    let test = c .before .before .before .before .before .before .before .before .before .before .before .before .loop-test in
+    let second = c .before .before .before .before .before .before .before .before .if2 in
+    let read = c .before .before .before .before .before .before .before .read in
     let s = c .before .before .before .before .before .before .before .before .before .before .before .before .before .before .before .before .before .before .args in
     let m = c .before .before .before .before .before .mark-hand in
-    tally-next (s .b) (s .m .now) (s .pt .now) (s .s1 .now) (c .before .before .before .before .before .before .before .before .before .before .before .before .before .before .before .before .before .before .pre .1) (c .before .before .before .before .before .before .before .before .before .before .before .before .before .loop .inv) (m .result) (m .last .1 .0) (c .before .before .before .before .before .before .before .before .before .before .before .before .loop-test .taken) refl (c .before .before .before .before .before .before .before .read .ensures) (c .before .before .before .before .before .before .before .before .if2 .left) (m .ensures)
+    tally-next (s .b) (s .m .now) (s .pt .now) (s .s1 .now) (h .1) (p .inv) (m .result) (m .last .1 .0) (test .taken) refl (read .ensures) (second .left) (m .ensures)
     (c .before .shut-bit .ensures) (c .due-pages .ensures) (m .kept .1 .0) (c .before .before .if3 .left)
 
 same-length-2 : tie.Need-same-length-2 Inv-loop μ-loop
@@ -104,11 +131,12 @@ same-length-2 c = search needs
 
 returns-2 : tie.Need-returns-2 Inv-loop μ-loop
 returns-2 c =
+    let h = c .before .before .before .before .before .before .pre in
     let s = c .before .before .before .before .before .before .args in
     let t = c .before .loop .inv in
     let end = c .loop-test .left in
-    let short = c .before .before .before .before .before .before .pre .1 in
-    let most = words-most (s .b) (c .before .before .before .before .before .before .pre .0 .1) in (
+    let short = h .1 in
+    let most = words-most (s .b) (h .0 .1) in (
       tally-hand (s .b) (s .m .now) (s .pt .now) (s .s1 .now) short t end,
       (λ z. (
         tally-mapped (s .b) (s .m .now) (s .pt .now) (s .s1 .now) short t end,

@@ -24,7 +24,10 @@ shared-slice-read-if1 : tie.Need-shared-slice-read-if1 Inv-loop μ-loop
 shared-slice-read-if1 c = search needs
 
 returns : tie.Need-returns Inv-loop μ-loop
-returns c = all-stop (λ p. eqb (getD (c .before .before .before .before .args .seen .now) p 0) 1) (length (c .before .before .before .before .args .seen .now)) (c .before .before .before .loop .i) (omega arith) (sym (ne-eqb _ _ (c .if1 .taken))) refl (c .before .before .before .loop .inv)
+returns c =
+    let s = c .before .before .before .before .args in
+    let turn = c .before .before .before .loop in
+    all-stop (λ p. eqb (getD (s .seen .now) p 0) 1) (length (s .seen .now)) (turn .i) (omega arith) (sym (ne-eqb _ _ (c .if1 .taken))) refl (turn .inv)
 
 add-i : tie.Need-add-i Inv-loop μ-loop
 add-i c = search needs
@@ -33,10 +36,15 @@ loop-less : tie.Need-loop-less Inv-loop μ-loop
 loop-less c = search needs
 
 loop-again : tie.Need-loop-again Inv-loop μ-loop
-loop-again c = all-go (λ p. eqb (getD (c .before .before .before .before .args .seen .now) p 0) 1) (length (c .before .before .before .before .args .seen .now)) (c .before .before .before .loop .i) (omega arith) (sym (eq-eqb _ _ (c .if1 .left))) refl (c .before .before .before .loop .inv)
+loop-again c =
+    let s = c .before .before .before .before .args in
+    let turn = c .before .before .before .loop in
+    all-go (λ p. eqb (getD (s .seen .now) p 0) 1) (length (s .seen .now)) (turn .i) (omega arith) (sym (eq-eqb _ _ (c .if1 .left))) refl (turn .inv)
 
 returns-2 : tie.Need-returns-2 Inv-loop μ-loop
-returns-2 c = all-end (λ p. eqb (getD (c .before .before .args .seen .now) p 0) 1) (length (c .before .before .args .seen .now)) (c .before .loop .i) (omega arith) (c .before .loop .inv)
+returns-2 c =
+    let s = c .before .before .args in
+    all-end (λ p. eqb (getD (s .seen .now) p 0) 1) (length (s .seen .now)) (c .before .loop .i) (omega arith) (c .before .loop .inv)
 
 pub all-marked-spec : {M : Type 1} → statement M
 all-marked-spec =

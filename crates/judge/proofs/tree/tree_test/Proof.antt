@@ -14,7 +14,10 @@ same-length : tie.Need-same-length
 same-length c = search needs
 
 returns : tie.Need-returns
-returns c = judged-no (c .before .before .before .before .before .before .before .args .b) (c .before .before .before .before .before .before .before .args .m .now) (failed _ (c .before .before .before .judge-partition .result) (c .before .before .before .judge-partition .last .1 .1 .0) (c .before .before .before .judge-partition .ensures) (not-true _ (c .if1 .taken)))
+returns c =
+    let s = c .before .before .before .before .before .before .before .args in
+    let judge-partition = c .before .before .before .judge-partition in
+    judged-no (s .b) (s .m .now) (failed _ (judge-partition .result) (judge-partition .last .1 .1 .0) (judge-partition .ensures) (not-true _ (c .if1 .taken)))
 
 all-marked-requires : tie.Need-all-marked-requires
 all-marked-requires c κs = search needs
@@ -23,7 +26,12 @@ same-length-2 : tie.Need-same-length-2
 same-length-2 c = search needs
 
 returns-2 : tie.Need-returns-2
-returns-2 c = c .all-marked .ensures ∙ sym (judged-yes (c .before .before .before .before .before .before .before .before .before .args .b) (c .before .before .before .before .before .before .before .before .before .args .m .now) (c .before .before .before .before .before .judge-partition .last .1 .1 .0) (passed _ (c .before .before .before .before .before .judge-partition .result) _ (c .before .before .before .before .before .judge-partition .ensures) (not-false _ (c .before .before .if1 .left))) (c .before .before .before .before .before .judge-partition .kept .1 .1 .0 ∙ c .before .before .before .before .before .before .before .before .before .pre .1))
+returns-2 c =
+    let s = c .before .before .before .before .before .before .before .before .before .args in
+    let h = c .before .before .before .before .before .before .before .before .before .pre in
+    let judge-partition = c .before .before .before .before .before .judge-partition in
+    c .all-marked .ensures ∙ sym
+    (judged-yes (s .b) (s .m .now) (judge-partition .last .1 .1 .0) (passed _ (judge-partition .result) _ (judge-partition .ensures) (not-false _ (c .before .before .if1 .left))) (judge-partition .kept .1 .1 .0 ∙ h .1))
 
 pub tree-test-spec : {M : Type 1} → statement M
 tree-test-spec =

@@ -19,13 +19,19 @@ loop-holds : tie.Need-loop-holds Inv-loop μ-loop
 loop-holds c = refl
 
 returns : tie.Need-returns Inv-loop μ-loop
-returns c = under-root (c .before .before .before .before .args .b) (c .before .before .before .before .args .m .now) (c .before .before .loop .left) (c .before .before .loop .p) (c .if1 .taken) ∙ sym (c .before .before .loop .inv)
+returns c =
+    let s = c .before .before .before .before .args in
+    let p = c .before .before .loop in
+    under-root (s .b) (s .m .now) (p .left) (p .p) (c .if1 .taken) ∙ sym (p .inv)
 
 placed-requires : tie.Need-placed-requires Inv-loop μ-loop
 placed-requires c κs = search needs
 
 returns-2 : tie.Need-returns-2 Inv-loop μ-loop
-returns-2 c = under-not (c .before .before .before .before .before .before .args .b) (c .before .before .before .before .before .before .args .m .now) (c .before .before .before .before .loop .left) (c .before .before .before .before .loop .p) (omega arith) (c .before .before .if1 .left) (no (c .before .placed .ensures) (c .if2 .taken)) ∙ sym (c .before .before .before .before .loop .inv)
+returns-2 c =
+    let s = c .before .before .before .before .before .before .args in
+    let p = c .before .before .before .before .loop in
+    under-not (s .b) (s .m .now) (p .left) (p .p) (omega arith) (c .before .before .if1 .left) (no (c .before .placed .ensures) (c .if2 .taken)) ∙ sym (p .inv)
 
 parent-requires : tie.Need-parent-requires Inv-loop μ-loop
 parent-requires c κs = search needs
@@ -37,10 +43,16 @@ loop-less : tie.Need-loop-less Inv-loop μ-loop
 loop-less c = search needs
 
 loop-again : tie.Need-loop-again Inv-loop μ-loop
-loop-again c = c .before .before .before .before .before .loop .inv ∙ under-up (c .before .before .before .before .before .before .before .args .b) (c .before .before .before .before .before .before .before .args .m .now) (c .before .before .before .before .before .loop .left) (c .before .before .before .before .before .loop .p) (omega arith) (c .before .before .before .if1 .left) (yes (c .before .before .placed .ensures) (c .before .if2 .left)) ∙ ap (under (c .before .before .before .before .before .before .before .args .b) (c .before .before .before .before .before .before .before .args .m .now) (c .before .before .before .before .before .loop .left - 1)) (sym (c .parent .ensures))
+loop-again c =
+    let s = c .before .before .before .before .before .before .before .args in
+    let p = c .before .before .before .before .before .loop in
+    p .inv ∙ under-up (s .b) (s .m .now) (p .left) (p .p) (omega arith) (c .before .before .before .if1 .left)
+    (yes (c .before .before .placed .ensures) (c .before .if2 .left)) ∙ ap (under (s .b) (s .m .now) (p .left - 1)) (sym (c .parent .ensures))
 
 returns-3 : tie.Need-returns-3 Inv-loop μ-loop
-returns-3 c = sym (c .before .loop .inv ∙ under-end (c .before .before .before .args .b) (c .before .before .before .args .m .now) (c .before .loop .left) (c .before .loop .p) (omega arith))
+returns-3 c =
+    let s = c .before .before .before .args in
+    sym (c .before .loop .inv ∙ under-end (s .b) (s .m .now) (c .before .loop .left) (c .before .loop .p) (omega arith))
 
 pub under-spec : {M : Type 1} → statement M
 under-spec =

@@ -24,9 +24,11 @@ same-length c = search needs
 
 returns : tie.Need-returns
 returns c =
+    let read = c .before .before .before .before .before .before .read in
+    let arguments = c .before .before .before .before .before .arguments in
     let s = c .before .before .before .before .before .before .before .before .before .args in
     let r = c .before .before .before .by-number .ensures in
-    let e = call-of (s .ws .now) (s .i) (c .before .before .before .before .before .before .read .ensures) (c .before .before .before .before .before .arguments .ensures) in
+    let e = call-of (s .ws .now) (s .i) (read .ensures) (arguments .ensures) in
     (c .pack .ensures ∙ ap packed (r .0 ∙ ap (λ x. answer 6 (s .m .now) x) e), r .1 ∙ ap (λ x. after 6 (s .m .now) x) e)
 
 pub call-spec : {M : Type 1} → statement M

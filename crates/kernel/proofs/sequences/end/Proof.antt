@@ -18,7 +18,9 @@ cast-n : tie.Need-cast-n
 cast-n c = omega (arith, c .shared-slice-known .given (c .before .before .args .i))
 
 returns-2 : tie.Need-returns-2
-returns-2 c = rw (unknown (c .before .before .before .args .ws .now) (c .before .before .before .args .i) (omega arith))
+returns-2 c =
+    let s = c .before .before .before .args in
+    rw (unknown (s .ws .now) (s .i) (omega arith))
 
 mul-k : tie.Need-mul-k
 mul-k c = search needs
@@ -30,7 +32,9 @@ sub-if3 : tie.Need-sub-if3
 sub-if3 c = search needs
 
 returns-3 : tie.Need-returns-3
-returns-3 c = rw (not-whole (c .before .before .before .before .args .ws .now) (c .before .before .before .before .args .i) (omega arith))
+returns-3 c =
+    let s = c .before .before .before .before .args in
+    rw (not-whole (s .ws .now) (s .i) (omega arith))
 
 add-result : tie.Need-add-result
 add-result c = search needs
@@ -39,7 +43,9 @@ add-result-2 : tie.Need-add-result-2
 add-result-2 c = search needs
 
 returns-4 : tie.Need-returns-4
-returns-4 c = rw (is-whole (c .before .before .before .before .args .ws .now) (c .before .before .before .before .args .i) (omega arith) (omega arith))
+returns-4 c =
+    let s = c .before .before .before .before .args in
+    rw (is-whole (s .ws .now) (s .i) (omega arith) (omega arith))
 
 pub end-spec : {M : Type 1} → statement M
 end-spec =

@@ -16,7 +16,9 @@ abbrev μ-loop : tie.MeasureT-loop
 μ-loop m₀ calls answers₀ n₀ i₀ m answers n i = length answers₀ - n
 
 loop-holds : tie.Need-loop-holds Inv-loop μ-loop
-loop-holds c = (omega arith, omega arith, search needs, search needs, rest-start (c .before .before .before .args .calls .now) (c .before .before .before .args .m .now) (c .before .before .before .args .answers .now))
+loop-holds c =
+    let s = c .before .before .before .args in
+    (omega arith, omega arith, search needs, search needs, rest-start (s .calls .now) (s .m .now) (s .answers .now))
 
 end-requires : tie.Need-end-requires Inv-loop μ-loop
 end-requires c κs = search needs
@@ -31,10 +33,13 @@ returns : tie.Need-returns Inv-loop μ-loop
 returns c =
     let a = c .before .before .before .before .before .before .before .args in
     let l = c .before .before .before .loop in
-    rest-none (a .calls .now) (a .m .now) (a .answers .now) (l .inv .4) (no-end (a .calls .now) (l .i) (c .before .end .ensures) (c .if1 .taken) (length (a .answers .now) - l .n))
+    rest-none (a .calls .now) (a .m .now) (a .answers .now) (l .inv .4)
+    (no-end (a .calls .now) (l .i) (c .before .end .ensures) (c .if1 .taken) (length (a .answers .now) - l .n))
 
 call-requires : tie.Need-call-requires Inv-loop μ-loop
-call-requires c κs = start-within (c .before .before .before .before .before .before .before .before .args .calls .now) (c .before .before .before .before .loop .i) (c .before .before .end .ensures) (c .before .if1 .left)
+call-requires c κs =
+    let s = c .before .before .before .before .before .before .before .before .args in
+    start-within (s .calls .now) (c .before .before .before .before .loop .i) (c .before .before .end .ensures) (c .before .if1 .left)
 
 mul-answers : tie.Need-mul-answers Inv-loop μ-loop
 mul-answers c = search needs
@@ -50,9 +55,10 @@ loop-less c = search needs
 
 loop-again : tie.Need-loop-again Inv-loop μ-loop
 loop-again c =
+    let end = c .before .before .before .before .before .end in
     let a = c .before .before .before .before .before .before .before .before .before .before .before .args in
     let l = c .before .before .before .before .before .before .before .loop in
-    let e = c .before .before .before .before .before .end .ensures in
+    let e = end .ensures in
     let s = c .before .before .call in
     let q = c .before .before .before .before .if1 .left in (
       omega arith,

@@ -40,7 +40,8 @@ returns c =
     let c₈ = c₇ .before .before .before in
     let s = c₈ .args in
     add-is (s .b) (s .m .now) (s .p) (s .c) (s .t) (s .r)
-    (c₇ .current .ensures) (c₆ .child-of .ensures) (c₅ .mapping .ensures) (c₄ .entry-of .ensures) (c₃ .set-mapping .ensures) (c₂ .set-above .ensures) (c₁ .set-lent .ensures)
+    (c₇ .current .ensures) (c₆ .child-of .ensures) (c₅ .mapping .ensures) (c₄ .entry-of .ensures) (c₃ .set-mapping .ensures) (c₂ .set-above .ensures)
+    (c₁ .set-lent .ensures)
 
 pub add-effect-spec : {M : Type 1} → statement M
 add-effect-spec =

@@ -26,8 +26,9 @@ returns c =
 
 add-effect-requires : tie.Need-add-effect-requires
 add-effect-requires c κs =
+    let h = c .before .before .before .before .before .pre in
     let s = c .before .before .before .before .before .args in
-    (c .before .before .before .before .before .pre .0, add-rights (s .b) (s .m .now) (s .p) (s .c) (s .t) (s .r) (sym (c .before .before .add-refusal .ensures .0) ∙ c .before .if1 .left))
+    (h .0, add-rights (s .b) (s .m .now) (s .p) (s .c) (s .t) (s .r) (sym (c .before .before .add-refusal .ensures .0) ∙ c .before .if1 .left))
 
 reply-requires-2 : tie.Need-reply-requires-2
 reply-requires-2 c κs = search needs
@@ -38,10 +39,11 @@ same-length-2 c = search needs
 returns-2 : tie.Need-returns-2
 unfolding result
 returns-2 c =
+    let first = c .before .before .before .before .before .if1 in
     let s = c .before .before .before .before .before .before .before .before .before .args in
     let r = c .before .before .before .before .before .before .add-refusal in
     let call = addVAddr (s .p) (s .c) (s .t) (s .r) in
-    done (s .b) (s .m .now) call (r .result) (r .ensures .0) 0 (c .reply2 .ensures) refl (c .before .before .before .add-effect .ensures) (c .before .before .before .before .before .if1 .left)
+    done (s .b) (s .m .now) call (r .result) (r .ensures .0) 0 (c .reply2 .ensures) refl (c .before .before .before .add-effect .ensures) (first .left)
 
 pub add-vaddr-spec : {M : Type 1} → statement M
 add-vaddr-spec =

@@ -11,10 +11,14 @@ lent-requires : tie.Need-lent-requires
 lent-requires c κs = search needs
 
 returns : tie.Need-returns
-returns c = let s = c .before .before .before .before .args in mapped-child (s .b) (s .m .now) (s .p) (c .before .before .current .result .0) (c .before .lent .result) (c .before .before .current .ensures) (c .before .lent .ensures) (c .if1 .taken)
+returns c =
+    let current = c .before .before .current in
+    let s = c .before .before .before .before .args in mapped-child (s .b) (s .m .now) (s .p) (current .result .0) (c .before .lent .result) (current .ensures) (c .before .lent .ensures) (c .if1 .taken)
 
 returns-2 : tie.Need-returns-2
-returns-2 c = let s = c .before .before .before .before .args in mapped-lent (s .b) (s .m .now) (s .p) (c .before .before .current .result .0) (c .before .lent .result) (c .before .before .current .ensures) (c .before .lent .ensures) (c .if1 .left)
+returns-2 c =
+    let current = c .before .before .current in
+    let s = c .before .before .before .before .args in mapped-lent (s .b) (s .m .now) (s .p) (current .result .0) (c .before .lent .result) (current .ensures) (c .before .lent .ensures) (c .if1 .left)
 
 pub lent-to-spec : {M : Type 1} → statement M
 lent-to-spec = tie.close (tie.spec current-requires lent-requires returns returns-2)

@@ -33,7 +33,8 @@ returns-2 c =
     let s = c .before .before .before .before .before .args in
     let r = c .before .before .before .mapped-refusal in
     let call = mappedInChild (s .p) in
-    done (s .b) (s .m .now) call (r .result) (r .ensures .0) (c .before .lent-to .result) (c .reply2 .ensures) (c .before .lent-to .ensures) refl (c .before .before .if1 .left)
+    done (s .b) (s .m .now) call (r .result) (r .ensures .0) (c .before .lent-to .result) (c .reply2 .ensures) (c .before .lent-to .ensures) refl
+    (c .before .before .if1 .left)
 
 pub mapped-in-child-spec : {M : Type 1} → statement M
 mapped-in-child-spec =

@@ -34,11 +34,12 @@ same-length-2 c = search needs
 returns-2 : tie.Need-returns-2
 unfolding result
 returns-2 c =
+    let first = c .before .before .before .before .before .if1 in
     let s = c .before .before .before .before .before .before .before .before .before .args in
     let r = c .before .before .before .before .before .before .remove-refusal in
     let x = c .before .before .before .remove-effect in
     let call = removeVAddr (s .c) (s .t) in
-    done (s .b) (s .m .now) call (r .result) (r .ensures .0) (x .result) (c .reply2 .ensures) (x .ensures .0) (x .ensures .1) (c .before .before .before .before .before .if1 .left)
+    done (s .b) (s .m .now) call (r .result) (r .ensures .0) (x .result) (c .reply2 .ensures) (x .ensures .0) (x .ensures .1) (first .left)
 
 pub remove-vaddr-spec : {M : Type 1} → statement M
 remove-vaddr-spec =

@@ -48,7 +48,10 @@ slice-aggregate-fill-page : tie.Need-slice-aggregate-fill-page
 slice-aggregate-fill-page c = search needs
 
 fill-page-requires : tie.Need-fill-page-requires
-fill-page-requires c κs = (c .before .before .before .before .before .before .before .before .before .before .before .before .before .before .before .before .before .before .before .before .before .pre, omega (arith, words-least (c .before .before .before .before .before .before .before .before .before .before .before .before .before .before .before .before .before .before .before .before .before .args .b) (c .before .before .before .before .before .before .before .before .before .before .before .before .before .before .before .before .before .before .before .before .before .pre .0)))
+fill-page-requires c κs =
+    let h = c .before .before .before .before .before .before .before .before .before .before .before .before .before .before .before .before .before .before .before .before .before .pre in
+    let s = c .before .before .before .before .before .before .before .before .before .before .before .before .before .before .before .before .before .before .before .before .before .args in
+    (h, omega (arith, words-least (s .b) (h .0)))
 
 write-word-requires : tie.Need-write-word-requires
 write-word-requires c κs = c .before .before .before .before .before .before .before .before .before .before .before .before .before .before .before .before .before .before .before .before .before .before .before .before .before .pre

@@ -34,9 +34,10 @@ same-length-2 c = search needs
 returns-2 : tie.Need-returns-2
 unfolding result
 returns-2 c =
+    let first = c .before .before .before .before .before .if1 in
     let s = c .before .before .before .before .before .before .before .before .before .args in
     let r = c .before .before .before .before .before .before .create-refusal in
-    done (s .b) (s .m .now) (creating (s .five)) (r .result) (r .ensures .0) 0 (c .reply2 .ensures) refl (c .before .before .before .create-effect .ensures) (c .before .before .before .before .before .if1 .left)
+    done (s .b) (s .m .now) (creating (s .five)) (r .result) (r .ensures .0) 0 (c .reply2 .ensures) refl (c .before .before .before .create-effect .ensures) (first .left)
 
 pub create-partition-spec : {M : Type 1} → statement M
 create-partition-spec =

@@ -87,6 +87,7 @@ depth-requires c κs = search needs
 
 returns-5 : tie.Need-returns-5
 returns-5 c =
+    let current = c .before .before .current in
     let c₁ = c .before .before .before in
     let c₂ = c₁ .before .before .before in
     let c₃ = c₂ .before .before .before in
@@ -97,13 +98,14 @@ returns-5 c =
           (on (sym (c₃ .before .twice .ensures) ∙ c₃ .if2 .left)
           (on (sym (c₂ .before .any-not-in-hand .ensures) ∙ c₂ .if3 .left)
           (on (sym (c₁ .before .any-lacks .ensures) ∙ c₁ .if4 .left)
-          (at (deep (s .args .b) (s .args .m .now) (c .before .depth .result) (c .before .before .current .result .0) (c .before .depth .ensures) (c .before .before .current .ensures) (c .if5 .taken)))))))
+          (at (deep (s .args .b) (s .args .m .now) (c .before .depth .result) (current .result .0) (c .before .depth .ensures) (current .ensures) (c .if5 .taken)))))))
           ∙ goes-on _ _ _ (c₄ .before .page-refusal .ensures .0) (c₄ .if1 .left)),
       omega arith,
     )
 
 returns-6 : tie.Need-returns-6
 returns-6 c =
+    let current = c .before .before .current in
     let c₁ = c .before .before .before in
     let c₂ = c₁ .before .before .before in
     let c₃ = c₂ .before .before .before in
@@ -114,7 +116,7 @@ returns-6 c =
           (on (sym (c₃ .before .twice .ensures) ∙ c₃ .if2 .left)
           (on (sym (c₂ .before .any-not-in-hand .ensures) ∙ c₂ .if3 .left)
           (on (sym (c₁ .before .any-lacks .ensures) ∙ c₁ .if4 .left)
-          (on (shallow (s .args .b) (s .args .m .now) (c .before .depth .result) (c .before .before .current .result .0) (c .before .depth .ensures) (c .before .before .current .ensures) (omega arith))
+          (on (shallow (s .args .b) (s .args .m .now) (c .before .depth .result) (current .result .0) (c .before .depth .ensures) (current .ensures) (omega arith))
           none)))))
           ∙ goes-on _ _ _ (c₄ .before .page-refusal .ensures .0) (c₄ .if1 .left)),
       omega arith,

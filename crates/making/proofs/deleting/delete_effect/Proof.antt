@@ -19,8 +19,11 @@ list-requires c κs = search needs
 
 listed-words-requires : tie.Need-listed-words-requires
 listed-words-requires c κs =
-    let s = c .before .before .before .before .before .before .before .before in
-    (s .pre .0, few-at (s .args .b) (s .args .m .now) (s .args .c) (c .before .before .before .child-of .result .0) (c .before .list .result .0) (c .before .before .before .child-of .ensures) (c .before .list .ensures) (s .pre .1 .1))
+    let child-of = c .before .before .before .child-of in
+    let s = c .before .before .before .before .before .before .before .before in (
+      s .pre .0,
+      few-at (s .args .b) (s .args .m .now) (s .args .c) (child-of .result .0) (c .before .list .result .0) (child-of .ensures) (c .before .list .ensures) (s .pre .1 .1),
+    )
 
 slice-aggregate-save : tie.Need-slice-aggregate-save
 slice-aggregate-save c = search needs

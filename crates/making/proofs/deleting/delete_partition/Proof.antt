@@ -32,9 +32,10 @@ returns c =
 delete-effect-requires : tie.Need-delete-effect-requires
 unfolding refusals
 delete-effect-requires c κs =
+    let h = c .before .before .before .before .before .before .pre in
     let s = c .before .before .before .before .before .before .args in
     let e = sym (one-page (s .b) (s .m .now) (s .c) _ (c .before .before .child-refusal .ensures .0)) ∙ c .before .if1 .left in
-    (c .before .before .before .before .before .before .pre .0, (child-some (s .b) (s .m .now) (s .c) e, child-few (s .b) (s .m .now) (s .c) e))
+    (h .0, (child-some (s .b) (s .m .now) (s .c) e, child-few (s .b) (s .m .now) (s .c) e))
 
 reply-requires-2 : tie.Need-reply-requires-2
 reply-requires-2 c κs = search needs
@@ -45,9 +46,11 @@ same-length-2 c = search needs
 returns-2 : tie.Need-returns-2
 unfolding refusals result
 returns-2 c =
+    let first = c .before .before .before .before .before .if1 in
     let s = c .before .before .before .before .before .before .before .before .before .before .args in
     let r = c .before .before .before .before .before .before .child-refusal in
-    done (s .b) (s .m .now) (deletePartition (s .c)) (r .result) (one-page (s .b) (s .m .now) (s .c) _ (r .ensures .0)) 0 (c .reply2 .ensures) refl (c .before .before .before .delete-effect .ensures) (c .before .before .before .before .before .if1 .left)
+    done (s .b) (s .m .now) (deletePartition (s .c)) (r .result) (one-page (s .b) (s .m .now) (s .c) _ (r .ensures .0)) 0 (c .reply2 .ensures) refl
+    (c .before .before .before .delete-effect .ensures) (first .left)
 
 pub delete-partition-spec : {M : Type 1} → statement M
 delete-partition-spec =

@@ -52,9 +52,12 @@ array-read-t36 c = search needs
 
 returns : tie.Need-returns
 returns c =
+    let frame-at = c .before .before .before .before .frame-at in
+    let frame-at2 = c .before .before .before .frame-at2 in
+    let frame-at3 = c .before .before .frame-at3 in
     let s = c .before .before .before .before .before .before .args in
-    descriptor-is (s .b) (s .m .now) (s .d .0) (s .own) (c .before .before .before .before .frame-at .result) (c .before .before .before .frame-at2 .result) (c .before .before .frame-at3 .result) (c .before .frame-at4 .result)
-    (c .frame-at5 .result) (s .t5) (omega arith) (c .before .before .before .before .frame-at .ensures .0) (c .before .before .before .frame-at2 .ensures .0) (c .before .before .frame-at3 .ensures .0) (c .before .frame-at4 .ensures .0)
+    descriptor-is (s .b) (s .m .now) (s .d .0) (s .own) (frame-at .result) (frame-at2 .result) (frame-at3 .result) (c .before .frame-at4 .result)
+    (c .frame-at5 .result) (s .t5) (omega arith) (frame-at .ensures .0) (frame-at2 .ensures .0) (frame-at3 .ensures .0) (c .before .frame-at4 .ensures .0)
     (c .frame-at5 .ensures .0)
 
 pub descriptor-words-spec : {M : Type 1} → statement M

@@ -26,9 +26,12 @@ same-length c = search needs
 
 returns : tie.Need-returns
 returns c =
+    let mapping = c .before .before .before .before .before .before .before .before .before .before .mapping in
+    let set-lent = c .before .before .before .before .before .before .before .before .set-lent in
+    let the-accessible = c .before .before .before .before .before .accessible in
     let s = c .before .before .before .before .before .before .before .before .before .before .before .before .before .args in
-    let e = c .before .before .before .before .before .accessible .ensures ∙ ap (λ (w : ℕ). accessible w) (c .before .before .before .before .before .before .before .before .before .before .mapping .ensures) in
-    c .before .before .return-page .ensures ∙ ap (λ (x : List ℕ). returnPage (s .b) x (s .d .0) (s .a)) (c .before .before .before .before .before .before .before .before .set-lent .ensures)
+    let e = the-accessible .ensures ∙ ap (λ (w : ℕ). accessible w) (mapping .ensures) in
+    c .before .before .return-page .ensures ∙ ap (λ (x : List ℕ). returnPage (s .b) x (s .d .0) (s .a)) (set-lent .ensures)
     ∙ sym (release-shut (s .b) (s .m .now) (s .d .0) (s .a) (sym e ∙ c .before .before .before .before .if1 .taken))
 
 same-length-2 : tie.Need-same-length-2
@@ -36,8 +39,9 @@ same-length-2 c = search needs
 
 returns-2 : tie.Need-returns-2
 returns-2 c =
+    let mapping = c .before .before .before .before .before .before .mapping in
     let s = c .before .before .before .before .before .before .before .before .before .args in
-    let e = c .before .accessible .ensures ∙ ap (λ (w : ℕ). accessible w) (c .before .before .before .before .before .before .mapping .ensures) in
+    let e = c .before .accessible .ensures ∙ ap (λ (w : ℕ). accessible w) (mapping .ensures) in
     c .before .before .before .before .set-lent .ensures ∙ sym (release-open (s .b) (s .m .now) (s .d .0) (s .a) (λ q. c .if1 .left (e ∙ q)))
 
 pub release-spec : {M : Type 1} → statement M

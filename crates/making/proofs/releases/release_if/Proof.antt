@@ -16,8 +16,10 @@ same-length c = search needs
 
 returns : tie.Need-returns
 returns c =
+    let lent = c .before .before .before .before .before .lent in
     let s = c .before .before .before .before .before .before .before .before .args in
-    c .before .before .release .ensures ∙ sym (releasing-its (s .b) (s .m .now) (s .d .0) (s .a) (s .c) (sym (c .before .before .before .before .before .lent .ensures) ∙ c .before .before .before .before .if1 .taken))
+    c .before .before .release .ensures ∙ sym
+    (releasing-its (s .b) (s .m .now) (s .d .0) (s .a) (s .c) (sym (lent .ensures) ∙ c .before .before .before .before .if1 .taken))
 
 same-length-2 : tie.Need-same-length-2
 same-length-2 c = search needs

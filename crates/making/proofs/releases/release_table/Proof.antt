@@ -50,10 +50,12 @@ same-length-2 c = search needs
 
 returns-2 : tie.Need-returns-2
 returns-2 c =
+    let shadow1 = c .before .before .before .before .before .before .before .before .shadow1 in
+    let read-word = c .before .before .before .before .before .before .read-word in
     let s = c .before .before .before .before .before .before .before .before .before .before .before in
     let b = s .args .b in
     let m = s .args .m .now in
-    let e = read b m (s .args .d .0) (s .args .i) (c .before .before .before .before .before .before .before .before .shadow1 .ensures) (c .before .before .before .before .before .before .read-word .ensures) in
+    let e = read b m (s .args .d .0) (s .args .i) (shadow1 .ensures) (read-word .ensures) in
     let f = c .before .before .words-of .ensures ∙ ap (page b m) (c .before .before .before .page-of .ensures ∙ ap (pageOf b) e) in
     let k = sym (ap (count (s .args .c)) f) ∙ sym (c .before .count-of .ensures) ∙ c .if2 .taken in
     sym (releaseAll-uncounted b (s .args .d .0) (s .args .c) m (s .args .i) k (s .pre .1 .1))

@@ -37,10 +37,11 @@ loop-less c = search needs
 
 loop-again : tie.Need-loop-again Inv-loop μ-loop
 loop-again c =
+    let parent = c .before .before .parent in
     let s = c .before .before .before .before .before .before .args in
     let p = c .before .before .before .before .loop in (
-      ap (λ (x : ℕ). p .k + 1 + depth (s .b) (s .n - (p .k + 1)) (s .m .now) x) (c .before .before .parent .ensures)
-          ∙ sym (depth-up (s .b) (s .m .now) (p .d .0) (s .n) (p .k) (omega arith) (λ q. c .if1 .left (c .before .before .parent .ensures ∙ q)))
+      ap (λ (x : ℕ). p .k + 1 + depth (s .b) (s .n - (p .k + 1)) (s .m .now) x) (parent .ensures)
+          ∙ sym (depth-up (s .b) (s .m .now) (p .d .0) (s .n) (p .k) (omega arith) (λ q. c .if1 .left (parent .ensures ∙ q)))
           ∙ p .inv .0,
       omega arith,
     )

@@ -46,7 +46,8 @@ returns c =
     let c₃ = c₂ .before .before .before .before in
     let s = c .before .before .before .before .before .before .before .before .before .before .before .before .before .before .before .before .before .args in
     let p = c .before .before .before .before .before .before .before .before .before .before .before .before .before .before .before .loop in
-    turn-root (s .b) (s .bit) (p .m) (c₁ .set-mapping .last .1 .0) (p .d .0) (p .v) (c₃ .mapping .result) (c₁ .before .before .rights .result) (c₁ .before .entry-of .result)
+    turn-root (s .b) (s .bit) (p .m) (c₁ .set-mapping .last .1 .0) (p .d .0) (p .v) (c₃ .mapping .result) (c₁ .before .before .rights .result)
+    (c₁ .before .entry-of .result)
     (c₂ .parent .result .0) (p .left) (c₃ .mapping .ensures) (c₁ .before .before .rights .ensures) (c₁ .before .entry-of .ensures) (c₁ .set-mapping .ensures)
     (c₂ .parent .ensures) (omega arith) (c .if1 .taken)
     ∙ p .inv .0
@@ -64,7 +65,8 @@ loop-again c =
     let c₃ = c₂ .before .before .before .before in
     let s = c .before .before .before .before .before .before .before .before .before .before .before .before .before .before .before .before .before .args in
     let p = c .before .before .before .before .before .before .before .before .before .before .before .before .before .before .before .loop in (
-      turn-up (s .b) (s .bit) (p .m) (c₁ .set-mapping .last .1 .0) (p .d .0) (p .v) (c₃ .mapping .result) (c₁ .before .before .rights .result) (c₁ .before .entry-of .result)
+      turn-up (s .b) (s .bit) (p .m) (c₁ .set-mapping .last .1 .0) (p .d .0) (p .v) (c₃ .mapping .result) (c₁ .before .before .rights .result)
+          (c₁ .before .entry-of .result)
           (c₂ .parent .result .0) (p .left) (c₃ .mapping .ensures) (c₁ .before .before .rights .ensures) (c₁ .before .entry-of .ensures) (c₁ .set-mapping .ensures)
           (c₂ .parent .ensures) (omega arith) (c₂ .before .before .above .result) (c₂ .before .before .above .ensures) (c .if1 .left)
           ∙ p .inv .0,

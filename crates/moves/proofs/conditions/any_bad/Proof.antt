@@ -43,8 +43,10 @@ loop-less c = search needs
 loop-again : tie.Need-loop-again Inv-loop μ-loop
 loop-again c =
     let s = c .before .before .before .before .before .before .args in
-    let p = c .before .before .before .before .loop in
-    (sym (any-next (badPage (s .b)) (s .vs .now) (p .i) (omega arith) (c .before .bad-page .result) (c .before .bad-page .ensures) (c .if1 .left)) ∙ p .inv .0, omega arith)
+    let p = c .before .before .before .before .loop in (
+      sym (any-next (badPage (s .b)) (s .vs .now) (p .i) (omega arith) (c .before .bad-page .result) (c .before .bad-page .ensures) (c .if1 .left)) ∙ p .inv .0,
+      omega arith,
+    )
 
 returns-2 : tie.Need-returns-2 Inv-loop μ-loop
 returns-2 c =

@@ -17,8 +17,9 @@ threes-requires c κs = search needs
 
 returns-2 : tie.Need-returns-2
 returns-2 c =
+    let no-three = c .before .before .no-three in
     let s = c .before .before .before .before .args in
-    full-absent (s .b) (s .m .now) (s .d .0) (s .a) (c .before .before .no-three .result) (c .before .before .no-three .ensures) (c .before .if1 .left) (c .threes .result) (c .threes .ensures)
+    full-absent (s .b) (s .m .now) (s .d .0) (s .a) (no-three .result) (no-three .ensures) (c .before .if1 .left) (c .threes .result) (c .threes .ensures)
 
 pub list-full-spec : {M : Type 1} → statement M
 list-full-spec = tie.close (tie.spec no-three-requires returns threes-requires returns-2)

@@ -21,8 +21,10 @@ same-length c = search needs
 
 returns : tie.Need-returns
 returns c =
+    let mapping = c .before .before .before .before .before .mapping in
     let s = c .before .before .before .before .before .before .before .before .args in
-    c .before .before .wipe-page .ensures ∙ ap (λ (p : ℕ). wipe (s .b) (s .m .now) p) (c .before .before .before .before .page-of .ensures ∙ ap (λ (w : ℕ). pageOf (s .b) w) (c .before .before .before .before .before .mapping .ensures))
+    c .before .before .wipe-page .ensures ∙ ap (λ (p : ℕ). wipe (s .b) (s .m .now) p)
+    (c .before .before .before .before .page-of .ensures ∙ ap (λ (w : ℕ). pageOf (s .b) w) (mapping .ensures))
 
 pub wipe-at-spec : {M : Type 1} → statement M
 wipe-at-spec =

@@ -16,12 +16,18 @@ no-child-requires : tie.Need-no-child-requires
 no-child-requires c κs = search needs
 
 returns-2 : tie.Need-returns-2
-returns-2 c =
-    (sym (first-is (at (sym (c .before .no-child .ensures) ∙ c .if2 .taken))) ∙ goes-on _ _ _ (c .before .before .before .page-refusal .ensures .0) (c .before .before .if1 .left), omega arith)
+returns-2 c = (
+  sym (first-is (at (sym (c .before .no-child .ensures) ∙ c .if2 .taken))) ∙ goes-on _ _ _ (c .before .before .before .page-refusal .ensures .0)
+      (c .before .before .if1 .left),
+  omega arith,
+)
 
 returns-3 : tie.Need-returns-3
-returns-3 c =
-    (sym (first-is (on (sym (c .before .no-child .ensures) ∙ c .if2 .left) none)) ∙ goes-on _ _ _ (c .before .before .before .page-refusal .ensures .0) (c .before .before .if1 .left), omega arith)
+returns-3 c = (
+  sym (first-is (on (sym (c .before .no-child .ensures) ∙ c .if2 .left) none)) ∙ goes-on _ _ _ (c .before .before .before .page-refusal .ensures .0)
+      (c .before .before .if1 .left),
+  omega arith,
+)
 
 pub child-refusal-spec : {M : Type 1} → statement M
 child-refusal-spec =

@@ -15,12 +15,14 @@ any-bad-requires c κs = search needs
 
 returns-2 : tie.Need-returns-2
 returns-2 c =
-    let g = ap not (sym (c .before .before .before .before .before .pre .1)) ∙ c .before .before .if1 .left in
+    let h = c .before .before .before .before .before .pre in
+    let g = ap not (sym (h .1)) ∙ c .before .before .if1 .left in
     (sym (first-is (on g (at (sym (c .before .any-bad .ensures) ∙ c .if2 .taken)))), omega arith)
 
 returns-3 : tie.Need-returns-3
 returns-3 c =
-    let g = ap not (sym (c .before .before .before .before .before .pre .1)) ∙ c .before .before .if1 .left in
+    let h = c .before .before .before .before .before .pre in
+    let g = ap not (sym (h .1)) ∙ c .before .before .if1 .left in
     (sym (first-is (on g (on (sym (c .before .any-bad .ensures) ∙ c .if2 .left) none))), omega arith)
 
 pub page-refusal-spec : {M : Type 1} → statement M

@@ -49,11 +49,14 @@ same-length c = search needs
 
 returns : tie.Need-returns
 returns c =
+    let h = c .before .before .before .before .before .before .before .before .before .before .before .pre in
+    let least = c .before .before .before .before .before .before .before .least in
+    let least2 = c .before .before .before .before .before .least2 in
     let s = c .before .before .before .before .before .before .before .before .before .before .before .args in
-    let a = c .before .before .before .before .before .before .before .least .result in
-    let e = c .before .before .before .before .before .least2 .result in
+    let a = least .result in
+    let e = least2 .result in
     let k : length (take (e - a) (drop a (s .m .now))) ≡ e - a = simp (length-take, length-drop) (omega arith) in
-    let q = part-of-page (s .b) (s .m .now) (s .p .0) (s .i) (s .n) a e (omega arith) (omega arith) (omega (arith, words-least (s .b) (c .before .before .before .before .before .before .before .before .before .before .before .pre .0 .0))) in
+    let q = part-of-page (s .b) (s .m .now) (s .p .0) (s .i) (s .n) a e (omega arith) (omega arith) (omega (arith, words-least (s .b) (h .0 .0))) in
     (c .before .before .copy .ensures ∙ ap (λ (l : List _). overwrite (s .buffer .now) 0 l) q, sym k ∙ ap length q, omega arith)
 
 pub save-spec : {M : Type 1} → statement M

@@ -13,7 +13,9 @@ bad-address-requires : tie.Need-bad-address-requires
 bad-address-requires c κs = search needs
 
 returns : tie.Need-returns
-returns c = c .bad-address .ensures ∙ ap (λ (u : ℕ). badAddress (c .before .before .args .b) u (c .before .before .args .a)) (c .before .page-bytes .ensures .0)
+returns c =
+    let s = c .before .before .args in
+    c .bad-address .ensures ∙ ap (λ (u : ℕ). badAddress (s .b) u (s .a)) (c .before .page-bytes .ensures .0)
 
 pub bad-page-spec : {M : Type 1} → statement M
 bad-page-spec = tie.close (tie.spec page-bytes-requires bad-address-requires returns)

@@ -19,7 +19,9 @@ least-requires : tie.Need-least-requires Inv-loop μ-loop
 least-requires c κs = search needs
 
 loop-holds : tie.Need-loop-holds Inv-loop μ-loop
-loop-holds c = (copy-none (c .before .before .before .args .s .now) (c .before .before .before .args .ws .now), search needs, search needs)
+loop-holds c =
+    let s = c .before .before .before .args in
+    (copy-none (s .s .now) (s .ws .now), search needs, search needs)
 
 mul-s : tie.Need-mul-s Inv-loop μ-loop
 mul-s c = search needs

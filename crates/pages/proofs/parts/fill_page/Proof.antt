@@ -40,8 +40,11 @@ same-length c = search needs
 
 returns : tie.Need-returns
 returns c =
+    let least = c .before .before .before .before .before .before .before .least in
+    let copy = c .before .before .copy in
     let s = c .before .before .before .before .before .before .before .before .before .before .before in
-    fill-back (s .args .b) (s .args .m .now) (s .args .p .0) (c .before .before .before .before .before .before .before .least .result) (c .before .before .before .before .least2 .result) (omega arith) (omega arith) (s .args .ws .now) (c .before .before .copy .last .0) (s .pre .1) (c .before .before .copy .ensures)
+    fill-back (s .args .b) (s .args .m .now) (s .args .p .0) (least .result) (c .before .before .before .before .least2 .result) (omega arith) (omega arith)
+    (s .args .ws .now) (copy .last .0) (s .pre .1) (copy .ensures)
 
 pub fill-page-spec : {M : Type 1} → statement M
 fill-page-spec =

@@ -40,8 +40,11 @@ same-length c = search needs
 
 returns : tie.Need-returns
 returns c =
+    let least = c .before .before .before .before .before .before .before .least in
+    let clear = c .before .before .clear in
     let s = c .before .before .before .before .before .before .before .before .before .before .args in
-    wipe-back (s .b) (s .m .now) (s .p .0) (c .before .before .before .before .before .before .before .least .result) (c .before .before .before .before .least2 .result) (omega arith) (omega arith) (c .before .before .clear .last .0) (c .before .before .clear .ensures)
+    wipe-back (s .b) (s .m .now) (s .p .0) (least .result) (c .before .before .before .before .least2 .result) (omega arith) (omega arith) (clear .last .0)
+    (clear .ensures)
 
 pub wipe-page-spec : {M : Type 1} → statement M
 wipe-page-spec =

@@ -38,9 +38,10 @@ part-result-end c = search needs
 
 returns : tie.Need-returns
 returns c =
+    let index = c .before .before .before .before .before .index in
     let s = c .before .before .before .before .before .before .before .args in
     part-is (s .m .now) (s .p .0 * pageWords (s .b)) (pageWords (s .b))
-    (c .before .before .before .before .least .ensures ∙ ap (λ (x : ℕ). min x (length (s .m .now))) (c .before .before .before .before .before .index .ensures .0 ∙ omega arith))
+    (c .before .before .before .before .least .ensures ∙ ap (λ (x : ℕ). min x (length (s .m .now))) (index .ensures .0 ∙ omega arith))
     (c .before .least2 .ensures ∙ ap (λ (x : ℕ). min x (length (s .m .now))) (c .before .before .index2 .ensures .0 ∙ ap (λ (x : ℕ). s .p .0 * pageWords (s .b) + x) (c .before .before .before .page-words .ensures .0)))
 
 pub words-of-spec : {M : Type 1} → statement M

@@ -24,8 +24,9 @@ same-length c = search needs
 
 returns : tie.Need-returns
 returns c =
+    let copy = c .before .before .copy in
     let s = c .before .before .before .before .before .before in
-    part-written (s .args .out .now) (s .args .at) (s .args .ws .now) (c .before .before .copy .last .0) (s .pre) (c .before .before .copy .ensures)
+    part-written (s .args .out .now) (s .args .at) (s .args .ws .now) (copy .last .0) (s .pre) (copy .ensures)
 
 pub put-bytes-spec : {M : Type 1} → statement M
 put-bytes-spec =

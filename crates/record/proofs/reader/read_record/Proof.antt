@@ -21,7 +21,11 @@ record-end-requires : tie.Need-record-end-requires
 record-end-requires c κs = search needs
 
 returns : tie.Need-returns
-returns c = (c .before .before .reply .ensures ∙ ap (λ (n : ℕ). Row.reply n 0) (c .before .before .before .record-refusal .ensures), c .before .record-begin .ensures, c .record-end .ensures)
+returns c = (
+  c .before .before .reply .ensures ∙ ap (λ (n : ℕ). Row.reply n 0) (c .before .before .before .record-refusal .ensures),
+  c .before .record-begin .ensures,
+  c .record-end .ensures,
+)
 
 pub read-record-spec : {M : Type 1} → statement M
 read-record-spec =

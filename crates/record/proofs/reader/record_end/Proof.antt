@@ -16,7 +16,9 @@ word-in-requires : tie.Need-word-in-requires
 word-in-requires c κs = omega (arith, passed-long (c .before .before .before .args .bytes .now) (sym (c .before .record-refusal .ensures) ∙ c .if1 .left))
 
 returns-2 : tie.Need-returns-2
-returns-2 c = c .word-in .ensures ∙ end-read (c .before .before .before .before .args .bytes .now) (c .before .before .record-refusal .result) (c .before .before .record-refusal .ensures) (c .before .if1 .left)
+returns-2 c =
+    let record-refusal = c .before .before .record-refusal in
+    c .word-in .ensures ∙ end-read (c .before .before .before .before .args .bytes .now) (record-refusal .result) (record-refusal .ensures) (c .before .if1 .left)
 
 pub record-end-spec : {M : Type 1} → statement M
 record-end-spec = tie.close (tie.spec record-refusal-requires returns word-in-requires returns-2)

@@ -23,10 +23,14 @@ word-in-requires-2 : tie.Need-word-in-requires-2
 word-in-requires-2 c κs = search needs
 
 returns-3 : tie.Need-returns-3
-returns-3 c = sym (crossed (c .before .before .before .before .before .before .before .args .bytes .now) (omega arith) (sym (c .before .before .before .before .has-magic .ensures) ∙ not-false _ (c .before .before .before .if2 .left)) (omega arith))
+returns-3 c =
+    let s = c .before .before .before .before .before .before .before .args in
+    sym (crossed (s .bytes .now) (omega arith) (sym (c .before .before .before .before .has-magic .ensures) ∙ not-false _ (c .before .before .before .if2 .left)) (omega arith))
 
 returns-4 : tie.Need-returns-4
-returns-4 c = sym (passed (c .before .before .before .before .before .before .before .args .bytes .now) (omega arith) (sym (c .before .before .before .before .has-magic .ensures) ∙ not-false _ (c .before .before .before .if2 .left)) (omega arith))
+returns-4 c =
+    let s = c .before .before .before .before .before .before .before .args in
+    sym (passed (s .bytes .now) (omega arith) (sym (c .before .before .before .before .has-magic .ensures) ∙ not-false _ (c .before .before .before .if2 .left)) (omega arith))
 
 pub record-refusal-spec : {M : Type 1} → statement M
 record-refusal-spec =

@@ -19,7 +19,9 @@ part-result-end : tie.Need-part-result-end
 part-result-end c = search needs
 
 returns : tie.Need-returns
-returns c = revision-refused (c .before .before .before .before .args .bytes .now) (c .before .before .record-refusal .result) (c .before .before .record-refusal .ensures) (c .before .if1 .taken)
+returns c =
+    let record-refusal = c .before .before .record-refusal in
+    revision-refused (c .before .before .before .before .args .bytes .now) (record-refusal .result) (record-refusal .ensures) (c .before .if1 .taken)
 
 sub-result-2 : tie.Need-sub-result-2
 sub-result-2 c = search needs
@@ -31,7 +33,9 @@ part-result-end-2 : tie.Need-part-result-end-2
 part-result-end-2 c = omega (arith, passed-long (c .before .before .before .args .bytes .now) (sym (c .before .record-refusal .ensures) ∙ c .if1 .left))
 
 returns-2 : tie.Need-returns-2
-returns-2 c = revision-read (c .before .before .before .before .args .bytes .now) (c .before .before .record-refusal .result) (c .before .before .record-refusal .ensures) (c .before .if1 .left)
+returns-2 c =
+    let record-refusal = c .before .before .record-refusal in
+    revision-read (c .before .before .before .before .args .bytes .now) (record-refusal .result) (record-refusal .ensures) (c .before .if1 .left)
 
 pub revision-spec : {M : Type 1} → statement M
 revision-spec =

@@ -17,10 +17,19 @@ add-t4 : tie.Need-add-t4
 add-t4 c = search needs
 
 address-requires : tie.Need-address-requires
-address-requires c κs = (c .before .before .before .pre .0, subst (λ (n : ℕ). Geometry.address (c .before .before .before .args .b) (n + 1) < 4294967296) (sym (c .flat-pages .ensures ∙ ap (Geometry.flatPages (c .before .before .before .args .b)) (c .before .pages .ensures))) (end-fits (c .before .before .before .args .b) (c .before .before .before .args .m .now) (c .before .before .before .pre .0 .1) (c .before .before .before .pre .1)))
+address-requires c κs =
+    let h = c .before .before .before .pre in
+    let s = c .before .before .before .args in (
+      h .0,
+      subst (λ (n : ℕ). Geometry.address (s .b) (n + 1) < 4294967296) (sym (c .flat-pages .ensures ∙ ap (Geometry.flatPages (s .b)) (c .before .pages .ensures)))
+          (end-fits (s .b) (s .m .now) (h .0 .1) (h .1)),
+    )
 
 returns : tie.Need-returns
-returns c = c .address .ensures ∙ ap (λ (n : ℕ). Geometry.address (c .before .before .before .before .args .b) (n + 1)) (c .before .flat-pages .ensures ∙ ap (Geometry.flatPages (c .before .before .before .before .args .b)) (c .before .before .pages .ensures))
+returns c =
+    let s = c .before .before .before .before .args in
+    c .address .ensures ∙ ap (λ (n : ℕ). Geometry.address (s .b) (n + 1))
+    (c .before .flat-pages .ensures ∙ ap (Geometry.flatPages (s .b)) (c .before .before .pages .ensures))
 
 pub end-of-spec : {M : Type 1} → statement M
 end-of-spec =

@@ -53,8 +53,18 @@ same-length c = search needs
 
 returns : tie.Need-returns
 returns c =
+    let page-bytes = c .before .before .before .before .before .before .before .before .before .before .before .before .before .before .before .before .before .before .before .before .before .before .before .page-bytes in
+    let little-endian = c .before .before .before .before .before .before .before .before .before .before .before .before .before .before .before .before .before .before .before .before .before .before .little-endian in
+    let end-of = c .before .before .before .before .before .before .before .before .before .before .before .before .before .before .before .before .before .before .before .before .before .end-of in
+    let little-endian2 = c .before .before .before .before .before .before .before .before .before .before .before .before .before .before .before .before .before .before .before .before .little-endian2 in
+    let put-bytes = c .before .before .before .before .before .before .before .before .before .before .before .before .before .before .before .before .before .put-bytes in
+    let put-bytes2 = c .before .before .before .before .before .before .before .before .before .before .before .before .put-bytes2 in
+    let put-bytes3 = c .before .before .before .before .before .before .before .put-bytes3 in
+    let put-bytes4 = c .before .before .put-bytes4 in
     let s = c .before .before .before .before .before .before .before .before .before .before .before .before .before .before .before .before .before .before .before .before .before .before .before .before .before .before .before .args in
-    in-parts (s .b) (s .m .now) (s .revision .now) (s .out .now) (c .before .before .before .before .before .before .before .before .before .before .before .before .before .before .before .before .before .before .before .before .before .before .little-endian .result) (c .before .before .before .before .before .before .before .before .before .before .before .before .before .before .before .before .before .before .before .before .little-endian2 .result) (c .before .before .before .before .before .before .before .before .before .before .before .before .before .before .before .before .before .put-bytes .last .0) (c .before .before .before .before .before .before .before .before .before .before .before .before .put-bytes2 .last .0) (c .before .before .before .before .before .before .before .put-bytes3 .last .0) (c .before .before .put-bytes4 .last .0) (c .before .before .before .before .before .before .before .before .before .before .before .before .before .before .before .before .before .before .before .before .before .before .little-endian .ensures ∙ ap littleEndian (c .before .before .before .before .before .before .before .before .before .before .before .before .before .before .before .before .before .before .before .before .before .before .before .page-bytes .ensures .0)) (c .before .before .before .before .before .before .before .before .before .before .before .before .before .before .before .before .before .before .before .before .little-endian2 .ensures ∙ ap littleEndian (c .before .before .before .before .before .before .before .before .before .before .before .before .before .before .before .before .before .before .before .before .before .end-of .ensures)) (c .before .before .before .before .before .before .before .before .before .before .before .before .before .before .before .before .before .put-bytes .ensures) (c .before .before .before .before .before .before .before .before .before .before .before .before .put-bytes2 .ensures) (c .before .before .before .before .before .before .before .put-bytes3 .ensures) (c .before .before .put-bytes4 .ensures)
+    in-parts (s .b) (s .m .now) (s .revision .now) (s .out .now) (little-endian .result) (little-endian2 .result) (put-bytes .last .0) (put-bytes2 .last .0)
+    (put-bytes3 .last .0) (put-bytes4 .last .0) (little-endian .ensures ∙ ap littleEndian (page-bytes .ensures .0))
+    (little-endian2 .ensures ∙ ap littleEndian (end-of .ensures)) (put-bytes .ensures) (put-bytes2 .ensures) (put-bytes3 .ensures) (put-bytes4 .ensures)
 
 pub fill-spec : {M : Type 1} → statement M
 fill-spec =

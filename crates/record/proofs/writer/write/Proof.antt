@@ -20,18 +20,22 @@ returns-2 c =
 returns-3 : tie.Need-returns-3
 returns-3 c =
     let s = c .before .before .before .before .before .before in
-    short-buffer (s .args .b) (s .args .m .now) (s .args .revision .now) (s .args .out .now) (sym (not-false _ (c .before .before .if1 .left)) ∙ s .pre .1) (omega arith) (omega arith)
+    short-buffer (s .args .b) (s .args .m .now) (s .args .revision .now) (s .args .out .now) (sym (not-false _ (c .before .before .if1 .left)) ∙ s .pre .1) (omega arith)
+    (omega arith)
 
 fill-requires : tie.Need-fill-requires
-fill-requires c κs = (c .before .before .before .before .before .before .before .pre .0, (sym (c .before .before .before .before .before .before .before .pre .1) ∙ not-false _ (c .before .before .before .if1 .left), (omega arith, omega arith)))
+fill-requires c κs =
+    let h = c .before .before .before .before .before .before .before .pre in
+    (h .0, (sym (h .1) ∙ not-false _ (c .before .before .before .if1 .left), (omega arith, omega arith)))
 
 same-length : tie.Need-same-length
 same-length c = search needs
 
 returns-4 : tie.Need-returns-4
 returns-4 c =
+    let first = c .before .before .before .before .before .before .if1 in
     let s = c .before .before .before .before .before .before .before .before .before .before in
-    let w = written (s .args .b) (s .args .m .now) (s .args .revision .now) (s .args .out .now) (sym (not-false _ (c .before .before .before .before .before .before .if1 .left)) ∙ s .pre .1) (omega arith) (omega arith) in
+    let w = written (s .args .b) (s .args .m .now) (s .args .revision .now) (s .args .out .now) (sym (not-false _ (first .left)) ∙ s .pre .1) (omega arith) (omega arith) in
     (w .0, c .before .before .fill .ensures ∙ w .1)
 
 pub write-spec : {M : Type 1} → statement M

@@ -59,7 +59,9 @@ put-decimal-returns : (t : ℕ) → put-decimal-lts.Need-returns (
   put-decimal-below t,
   put-decimal.Post,
 ) (put-decimal-at t) put-decimal.Post
-put-decimal-returns t c = put-digit (c .before .before .args .out .now) (c .before .before .args .at) (c .before .before .args .x) (c .if1 .taken)
+put-decimal-returns t c =
+    let s = c .before .before .args in
+    put-digit (s .out .now) (s .at) (s .x) (c .if1 .taken)
 
 put-decimal-put-decimal-requires : (t : ℕ) → put-decimal-lts.Need-put-decimal-requires (
   put-decimal-below t,
@@ -101,7 +103,10 @@ put-decimal-returns-2 : (t : ℕ) → put-decimal-lts.Need-returns-2 (
   put-decimal-below t,
   put-decimal.Post,
 ) (put-decimal-at t) put-decimal.Post
-put-decimal-returns-2 t c = put-digits (c .before .before .before .before .before .before .args .out .now) (c .before .before .put-decimal .last .0) (c .before .before .before .before .before .before .args .at) (c .before .before .put-decimal .result) (c .before .before .before .before .before .before .args .x) (omega arith) (omega arith) (c .before .before .put-decimal .ensures)
+put-decimal-returns-2 t c =
+    let s = c .before .before .before .before .before .before .args in
+    let put-decimal = c .before .before .put-decimal in
+    put-digits (s .out .now) (put-decimal .last .0) (s .at) (put-decimal .result) (s .x) (omega arith) (omega arith) (put-decimal .ensures)
 
 pub +put-decimal-spec : {M : Type 1} → statement M
 +put-decimal-spec = close μ-put-decimal λ t. put-decimal-lts.spec (

@@ -10,10 +10,14 @@ use Rattle.script.proofs.header.good_header.Statement.{statement}
 use Rattle.script.proofs.header.good_header.Tie as tie
 
 returns : tie.Need-returns
-returns c = sym (too-short (c .before .before .args .b) (c .before .before .args .bytes .now) (omega arith))
+returns c =
+    let s = c .before .before .args in
+    sym (too-short (s .b) (s .bytes .now) (omega arith))
 
 returns-2 : tie.Need-returns-2
-returns-2 c = sym (too-long (c .before .before .before .args .b) (c .before .before .before .args .bytes .now) (omega arith) (omega arith))
+returns-2 c =
+    let s = c .before .before .before .args in
+    sym (too-long (s .b) (s .bytes .now) (omega arith) (omega arith))
 
 word-in-requires : tie.Need-word-in-requires
 word-in-requires c κs = search needs
@@ -22,16 +26,22 @@ cast-first : tie.Need-cast-first
 cast-first c = search needs
 
 returns-3 : tie.Need-returns-3
-returns-3 c = sym (too-early (c .before .before .before .before .before .args .b) (c .before .before .before .before .before .args .bytes .now) (omega arith) (omega arith) (omega arith))
+returns-3 c =
+    let s = c .before .before .before .before .before .args in
+    sym (too-early (s .b) (s .bytes .now) (omega arith) (omega arith) (omega arith))
 
 returns-4 : tie.Need-returns-4
-returns-4 c = sym (too-late (c .before .before .before .before .before .before .args .b) (c .before .before .before .before .before .before .args .bytes .now) (omega arith) (omega arith) (omega arith) (omega arith))
+returns-4 c =
+    let s = c .before .before .before .before .before .before .args in
+    sym (too-late (s .b) (s .bytes .now) (omega arith) (omega arith) (omega arith) (omega arith))
 
 word-in-requires-2 : tie.Need-word-in-requires-2
 word-in-requires-2 c κs = search needs
 
 returns-5 : tie.Need-returns-5
-returns-5 c = sym (too-few (c .before .before .before .before .before .before .before .before .args .b) (c .before .before .before .before .before .before .before .before .args .bytes .now) (omega arith) (omega arith) (omega arith) (omega arith) (omega arith))
+returns-5 c =
+    let s = c .before .before .before .before .before .before .before .before .args in
+    sym (too-few (s .b) (s .bytes .now) (omega arith) (omega arith) (omega arith) (omega arith) (omega arith))
 
 page-words-requires : tie.Need-page-words-requires
 page-words-requires c κs = search needs

@@ -15,19 +15,27 @@ good-header-requires : tie.Need-good-header-requires
 good-header-requires c κs = search needs
 
 returns : tie.Need-returns
-returns c = sym (no-header (c .before .before .before .args .b) (c .before .before .before .args .bytes .now) (sym (c .before .good-header .ensures) ∙ not-true _ (c .if1 .taken)))
+returns c =
+    let s = c .before .before .before .args in
+    sym (no-header (s .b) (s .bytes .now) (sym (c .before .good-header .ensures) ∙ not-true _ (c .if1 .taken)))
 
 word-in-requires : tie.Need-word-in-requires
-word-in-requires c κs = omega (arith, header? (c .before .before .before .args .b) (c .before .before .before .args .bytes .now) .0 (sym (c .before .good-header .ensures) ∙ not-false _ (c .if1 .left)))
+word-in-requires c κs =
+    let s = c .before .before .before .args in
+    omega (arith, header? (s .b) (s .bytes .now) .0 (sym (c .before .good-header .ensures) ∙ not-false _ (c .if1 .left)))
 
 word-in-requires-2 : tie.Need-word-in-requires-2
-word-in-requires-2 c κs = omega (arith, header? (c .before .before .before .before .args .b) (c .before .before .before .before .args .bytes .now) .0 (sym (c .before .before .good-header .ensures) ∙ not-false _ (c .before .if1 .left)))
+word-in-requires-2 c κs =
+    let s = c .before .before .before .before .args in
+    omega (arith, header? (s .b) (s .bytes .now) .0 (sym (c .before .before .good-header .ensures) ∙ not-false _ (c .before .if1 .left)))
 
 cast-all-records : tie.Need-cast-all-records
 cast-all-records c = search needs
 
 all-records-requires : tie.Need-all-records-requires
-all-records-requires c κs = omega (arith, header? (c .before .before .before .before .before .args .b) (c .before .before .before .before .before .args .bytes .now) .0 (sym (c .before .before .before .good-header .ensures) ∙ not-false _ (c .before .before .if1 .left)))
+all-records-requires c κs =
+    let s = c .before .before .before .before .before .args in
+    omega (arith, header? (s .b) (s .bytes .now) .0 (sym (c .before .before .before .good-header .ensures) ∙ not-false _ (c .before .before .if1 .left)))
 
 returns-2 : tie.Need-returns-2
 returns-2 c =

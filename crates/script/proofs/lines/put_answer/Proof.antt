@@ -17,8 +17,9 @@ same-length c = search needs
 
 returns : tie.Need-returns
 returns c =
+    let put-line = c .before .before .put-line in
     let s = c .before .before .before .before .before .before .args in
-    (put-same (ap (line (s .k)) (c .before .before .before .before .outcome-of .ensures)) (c .before .before .put-line .ensures .0), c .before .before .put-line .ensures .1)
+    (put-same (ap (line (s .k)) (c .before .before .before .before .outcome-of .ensures)) (put-line .ensures .0), put-line .ensures .1)
 
 pub put-answer-spec : {M : Type 1} → statement M
 put-answer-spec = tie.close (tie.spec outcome-of-requires put-line-requires same-length returns)

@@ -37,9 +37,13 @@ same-length c = search needs
 
 returns : tie.Need-returns
 returns c =
+    let flat-pages = c .before .before .before .before .before .before .before .before .before .before .before .before .before .before .before .before .before .before .flat-pages in
+    let put-decimal = c .before .before .before .before .before .before .before .before .before .before .before .before .before .before .before .before .put-decimal in
+    let put = c .before .before .before .before .before .before .before .before .before .before .before .put in
+    let put-decimal2 = c .before .before .before .before .before .before .before .put-decimal2 in
     let s = c .before .before .before .before .before .before .before .before .before .before .before .before .before .before .before .before .before .before .before .before .args in
-    let e = ap (λ (f : ℕ). decimal (s .n) ++ (32 ∷ []) ++ decimal f ++ (10 ∷ [])) (c .before .before .before .before .before .before .before .before .before .before .before .before .before .before .before .before .before .before .flat-pages .ensures) in
-    let p = put-same e (put-then (put-then (put-then (c .before .before .before .before .before .before .before .before .before .before .before .before .before .before .before .before .put-decimal .ensures) (c .before .before .before .before .before .before .before .before .before .before .before .put .ensures)) (c .before .before .before .before .before .before .before .put-decimal2 .ensures)) (c .before .before .put2 .ensures)) in
+    let e = ap (λ (f : ℕ). decimal (s .n) ++ (32 ∷ []) ++ decimal f ++ (10 ∷ [])) (flat-pages .ensures) in
+    let p = put-same e (put-then (put-then (put-then (put-decimal .ensures) (put .ensures)) (put-decimal2 .ensures)) (c .before .before .put2 .ensures)) in
     (p, omega (arith, p .next, first-most (s .b) (s .n)))
 
 pub put-first-line-spec : {M : Type 1} → statement M

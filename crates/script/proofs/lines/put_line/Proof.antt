@@ -25,22 +25,30 @@ put-requires : tie.Need-put-requires
 put-requires c κs = omega (arith, decimal-most (c .before .before .before .before .before .before .before .before .args .k))
 
 put-decimal-requires-2 : tie.Need-put-decimal-requires-2
-put-decimal-requires-2 c κs = omega (arith, decimal-most (c .before .before .before .before .before .before .before .before .before .before .before .before .args .k), decimal-most (c .before .before .before .before .before .before .before .before .before .before .before .before .args .x))
+put-decimal-requires-2 c κs =
+    let s = c .before .before .before .before .before .before .before .before .before .before .before .before .args in
+    omega (arith, decimal-most (s .k), decimal-most (s .x))
 
 slice-aggregate-put-2 : tie.Need-slice-aggregate-put-2
 slice-aggregate-put-2 c = search needs
 
 put-requires-2 : tie.Need-put-requires-2
-put-requires-2 c κs = omega (arith, decimal-most (c .before .before .before .before .before .before .before .before .before .before .before .before .before .before .before .before .before .args .k), decimal-most (c .before .before .before .before .before .before .before .before .before .before .before .before .before .before .before .before .before .args .x))
+put-requires-2 c κs =
+    let s = c .before .before .before .before .before .before .before .before .before .before .before .before .before .before .before .before .before .args in
+    omega (arith, decimal-most (s .k), decimal-most (s .x))
 
 same-length : tie.Need-same-length
 same-length c = search needs
 
 returns : tie.Need-returns
 returns c =
+    let outcome-word = c .before .before .before .before .before .before .before .before .before .before .before .before .before .before .before .before .before .before .outcome-word in
+    let put-decimal = c .before .before .before .before .before .before .before .before .before .before .before .before .before .before .before .before .put-decimal in
+    let put = c .before .before .before .before .before .before .before .before .before .before .before .put in
+    let put-decimal2 = c .before .before .before .before .before .before .before .put-decimal2 in
     let s = c .before .before .before .before .before .before .before .before .before .before .before .before .before .before .before .before .before .before .before .before .args in
-    let e = ap (λ (l : List ℕ). decimal (s .k) ++ l ++ decimal (s .x) ++ (10 ∷ [])) (c .before .before .before .before .before .before .before .before .before .before .before .before .before .before .before .before .before .before .outcome-word .ensures) ∙ line-is (s .k) (s .done) (s .x) in
-    let p = put-same e (put-then (put-then (put-then (c .before .before .before .before .before .before .before .before .before .before .before .before .before .before .before .before .put-decimal .ensures) (c .before .before .before .before .before .before .before .before .before .before .before .put .ensures)) (c .before .before .before .before .before .before .before .put-decimal2 .ensures)) (c .before .before .put2 .ensures)) in
+    let e = ap (λ (l : List ℕ). decimal (s .k) ++ l ++ decimal (s .x) ++ (10 ∷ [])) (outcome-word .ensures) ∙ line-is (s .k) (s .done) (s .x) in
+    let p = put-same e (put-then (put-then (put-then (put-decimal .ensures) (put .ensures)) (put-decimal2 .ensures)) (c .before .before .put2 .ensures)) in
     (p, omega (arith, p .next, line-most (s .k) (outcome (s .done) (s .x))))
 
 pub put-line-spec : {M : Type 1} → statement M

@@ -25,8 +25,9 @@ whole-record-requires c κs = search needs
 
 returns : tie.Need-returns Inv-loop μ-loop
 returns c =
+    let s = c .before .before .before .before .before .args in
     let p = c .before .before .before .loop in
-    sym (sym (p .inv .0) ∙ ends (c .before .before .before .before .before .args .bytes .now) (p .n) (p .i) (c .before .before .loop-test .taken) (sym (c .before .whole-record .ensures) ∙ not-true _ (c .if1 .taken)))
+    sym (sym (p .inv .0) ∙ ends (s .bytes .now) (p .n) (p .i) (c .before .before .loop-test .taken) (sym (c .before .whole-record .ensures) ∙ not-true _ (c .if1 .taken)))
 
 next-record-requires : tie.Need-next-record-requires Inv-loop μ-loop
 next-record-requires c κs = sym (c .before .whole-record .ensures) ∙ not-false _ (c .if1 .left)
@@ -39,9 +40,14 @@ loop-less c = search needs
 
 loop-again : tie.Need-loop-again Inv-loop μ-loop
 loop-again c =
+    let s = c .before .before .before .before .before .before .args in
     let p = c .before .before .before .before .loop in
-    let bs = c .before .before .before .before .before .before .args .bytes .now in
-    (ap (λ (i : ℕ). isScript (records (p .n - 1) bs i)) (c .next-record .ensures .0) ∙ sym (goes-on bs (p .n) (p .i) (c .before .before .before .loop-test .taken) (sym (c .before .before .whole-record .ensures) ∙ not-false _ (c .before .if1 .left))) ∙ p .inv .0, c .next-record .ensures .1)
+    let bs = s .bytes .now in (
+      ap (λ (i : ℕ). isScript (records (p .n - 1) bs i)) (c .next-record .ensures .0) ∙ sym
+          (goes-on bs (p .n) (p .i) (c .before .before .before .loop-test .taken) (sym (c .before .before .whole-record .ensures) ∙ not-false _ (c .before .if1 .left)))
+          ∙ p .inv .0,
+      c .next-record .ensures .1,
+    )
 
 returns-2 : tie.Need-returns-2 Inv-loop μ-loop
 returns-2 c =

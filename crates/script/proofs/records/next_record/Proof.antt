@@ -17,7 +17,9 @@ word-in-requires : tie.Need-word-in-requires
 word-in-requires c κs = omega (arith, whole? (c .before .args .bytes .now) (c .before .args .i) .0 (c .before .pre))
 
 argument-count-requires : tie.Need-argument-count-requires
-argument-count-requires c κs = omega (arith, whole? (c .before .before .args .bytes .now) (c .before .before .args .i) .0 (c .before .before .pre))
+argument-count-requires c κs =
+    let s = c .before .before .args in
+    omega (arith, whole? (s .bytes .now) (s .i) .0 (c .before .before .pre))
 
 mul-result : tie.Need-mul-result
 mul-result c = search needs

@@ -15,7 +15,9 @@ sub-left : tie.Need-sub-left
 sub-left c = search needs
 
 returns : tie.Need-returns
-returns c = sym (cut (c .before .before .args .bytes .now) (c .before .before .args .i) (omega arith))
+returns c =
+    let s = c .before .before .args in
+    sym (cut (s .bytes .now) (s .i) (omega arith))
 
 word-in-requires : tie.Need-word-in-requires
 word-in-requires c κs = search needs
@@ -24,7 +26,9 @@ known-call-requires : tie.Need-known-call-requires
 known-call-requires c κs = search needs
 
 returns-2 : tie.Need-returns-2
-returns-2 c = sym (unknown (c .before .before .before .before .before .args .bytes .now) (c .before .before .before .before .before .args .i) (ap knownCall (sym (c .before .before .word-in .ensures)) ∙ sym (c .before .known-call .ensures) ∙ not-true _ (c .if2 .taken)))
+returns-2 c =
+    let s = c .before .before .before .before .before .args in
+    sym (unknown (s .bytes .now) (s .i) (ap knownCall (sym (c .before .before .word-in .ensures)) ∙ sym (c .before .known-call .ensures) ∙ not-true _ (c .if2 .taken)))
 
 argument-count-requires : tie.Need-argument-count-requires
 argument-count-requires c κs = known? (c .before .before .word-in .result) .0 (sym (c .before .known-call .ensures) ∙ not-false _ (c .if2 .left))
@@ -34,9 +38,11 @@ mul-result c = search needs
 
 returns-3 : tie.Need-returns-3
 returns-3 c =
+    let word-in = c .before .before .before .word-in in
     let s = c .before .before .before .before .before .before .args in
-    ap (λ (k : ℕ). leb (4 * k) (length (s .bytes .now) - s .i - 4)) (c .argument-count .ensures .0 ∙ ap argumentCount (c .before .before .before .word-in .ensures))
-    ∙ by-bytes-left (s .bytes .now) (s .i) (omega arith) (ap knownCall (sym (c .before .before .before .word-in .ensures)) ∙ sym (c .before .before .known-call .ensures) ∙ not-false _ (c .before .if2 .left))
+    ap (λ (k : ℕ). leb (4 * k) (length (s .bytes .now) - s .i - 4)) (c .argument-count .ensures .0 ∙ ap argumentCount (word-in .ensures))
+    ∙ by-bytes-left (s .bytes .now) (s .i) (omega arith)
+    (ap knownCall (sym (word-in .ensures)) ∙ sym (c .before .before .known-call .ensures) ∙ not-false _ (c .before .if2 .left))
 
 pub whole-record-spec : {M : Type 1} → statement M
 whole-record-spec =

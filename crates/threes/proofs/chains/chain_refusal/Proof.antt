@@ -24,8 +24,10 @@ returns-2 : tie.Need-returns-2
 returns-2 c =
     let c₁ = c .before .before .before in
     let s = c₁ .before .before .before .args in
-    let r = c .before .linked-refusal2 in
-    (stop-second (s .b) (s .m .now) (s .p) (c₁ .before .linked-refusal .ensures .0) (c₁ .if1 .left) (c .before .before .link .ensures) (r .ensures .0) (c .if2 .taken), r .ensures .1)
+    let r = c .before .linked-refusal2 in (
+      stop-second (s .b) (s .m .now) (s .p) (c₁ .before .linked-refusal .ensures .0) (c₁ .if1 .left) (c .before .before .link .ensures) (r .ensures .0) (c .if2 .taken),
+      r .ensures .1,
+    )
 
 link-requires-2 : tie.Need-link-requires-2
 link-requires-2 c κs = search needs

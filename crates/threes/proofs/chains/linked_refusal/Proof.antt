@@ -31,13 +31,21 @@ lacks-requires c κs = search needs
 
 returns-4 : tie.Need-returns-4
 returns-4 c =
-    let g = ap₂ _||_ (sym (c .before .before .before .before .before .before .bad-page .ensures) ∙ c .before .before .before .before .before .if1 .left) (c .before .before .before .before .if2 .left) in
-    (sym (first-is (on g (on (sym (c .before .before .before .not-in-hand .ensures) ∙ c .before .before .if3 .left) (at (sym (c .before .lacks .ensures) ∙ c .if4 .taken))))), omega arith)
+    let bad-page = c .before .before .before .before .before .before .bad-page in
+    let first = c .before .before .before .before .before .if1 in
+    let g = ap₂ _||_ (sym (bad-page .ensures) ∙ first .left) (c .before .before .before .before .if2 .left) in (
+      sym (first-is (on g (on (sym (c .before .before .before .not-in-hand .ensures) ∙ c .before .before .if3 .left) (at (sym (c .before .lacks .ensures) ∙ c .if4 .taken))))),
+      omega arith,
+    )
 
 returns-5 : tie.Need-returns-5
 returns-5 c =
-    let g = ap₂ _||_ (sym (c .before .before .before .before .before .before .bad-page .ensures) ∙ c .before .before .before .before .before .if1 .left) (c .before .before .before .before .if2 .left) in
-    (sym (first-is (on g (on (sym (c .before .before .before .not-in-hand .ensures) ∙ c .before .before .if3 .left) (on (sym (c .before .lacks .ensures) ∙ c .if4 .left) none)))), omega arith)
+    let bad-page = c .before .before .before .before .before .before .bad-page in
+    let first = c .before .before .before .before .before .if1 in
+    let g = ap₂ _||_ (sym (bad-page .ensures) ∙ first .left) (c .before .before .before .before .if2 .left) in (
+      sym (first-is (on g (on (sym (c .before .before .before .not-in-hand .ensures) ∙ c .before .before .if3 .left) (on (sym (c .before .lacks .ensures) ∙ c .if4 .left) none)))),
+      omega arith,
+    )
 
 pub linked-refusal-spec : {M : Type 1} → statement M
 linked-refusal-spec =

@@ -51,11 +51,15 @@ any-word-requires c κs = search needs
 
 returns : tie.Need-returns
 returns c =
+    let table-for = c .before .before .before .before .before .before .before .before .table-for in
+    let page-of = c .before .before .before .before .before .before .before .page-of in
+    let least = c .before .before .before .before .before .least in
+    let page-words = c .before .before .before .before .page-words in
     let s = c .before .before .before .before .before .before .before .before .before .before .args in
     c .any-word .ensures
     ∙ ap (λ (l : List ℕ). any (λ w. not (eqb w 0)) l)
-    (page-part (s .b) (s .m .now) (c .before .before .before .before .before .before .before .page-of .result .0) (c .before .before .before .before .before .least .result) (c .before .before .least2 .result) (c .before .before .before .before .page-words .result) (omega arith) (omega arith) (c .before .before .before .before .page-words .ensures .0)
-    ∙ ap (page (s .b) (s .m .now)) (c .before .before .before .before .before .before .before .page-of .ensures ∙ ap (pageOf (s .b)) (c .before .before .before .before .before .before .before .before .table-for .ensures)))
+    (page-part (s .b) (s .m .now) (page-of .result .0) (least .result) (c .before .before .least2 .result) (page-words .result) (omega arith) (omega arith) (page-words .ensures .0)
+    ∙ ap (page (s .b) (s .m .now)) (page-of .ensures ∙ ap (pageOf (s .b)) (table-for .ensures)))
 
 pub any-mapping-spec : {M : Type 1} → statement M
 any-mapping-spec =

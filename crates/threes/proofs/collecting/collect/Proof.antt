@@ -26,8 +26,9 @@ returns c =
 
 collect-effect-requires : tie.Need-collect-effect-requires
 collect-effect-requires c κs =
+    let h = c .before .before .before .before .before .pre in
     let s = c .before .before .before .before .before .args in
-    (c .before .before .before .before .before .pre .0, collect-stands (s .b) (s .m .now) (s .c) (s .t) (c .before .before .before .before .before .pre .0 .0) (sym (c .before .before .collect-refusal .ensures .0) ∙ c .before .if1 .left))
+    (h .0, collect-stands (s .b) (s .m .now) (s .c) (s .t) (h .0 .0) (sym (c .before .before .collect-refusal .ensures .0) ∙ c .before .if1 .left))
 
 reply-requires-2 : tie.Need-reply-requires-2
 reply-requires-2 c κs = search needs
@@ -37,11 +38,12 @@ same-length-2 c = search needs
 
 returns-2 : tie.Need-returns-2
 returns-2 c =
+    let first = c .before .before .before .before .before .if1 in
     let s = c .before .before .before .before .before .before .before .before .before .args in
     let r = c .before .before .before .before .before .before .collect-refusal in
     let x = c .before .before .before .collect-effect in
     let call = collect (s .c) (s .t) in
-    done (s .b) (s .m .now) call (r .result) (r .ensures .0) (x .result) (c .reply2 .ensures) (x .ensures .0) (x .ensures .1) (c .before .before .before .before .before .if1 .left)
+    done (s .b) (s .m .now) call (r .result) (r .ensures .0) (x .result) (c .reply2 .ensures) (x .ensures .0) (x .ensures .1) (first .left)
 
 pub collect-spec : {M : Type 1} → statement M
 collect-spec =

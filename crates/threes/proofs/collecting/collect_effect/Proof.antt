@@ -15,9 +15,10 @@ child-of-requires c κs = search needs
 
 three-place-requires : tie.Need-three-place-requires
 three-place-requires c κs =
+    let asked = c .before .before .before .before .before .before .pre in
     let s = c .before .before .before .before .before .before .args in
-    let h = subst (λ (k : ℕ). Standing (s .b) (s .m .now) k (s .t)) (sym (c .before .child-of .ensures)) (c .before .before .before .before .before .before .pre .1) in
-    (c .before .before .before .before .before .before .pre .0, (h .table, h .listed .few))
+    let h = subst (λ (k : ℕ). Standing (s .b) (s .m .now) k (s .t)) (sym (c .before .child-of .ensures)) (asked .1) in
+    (asked .0, (h .table, h .listed .few))
 
 list-requires : tie.Need-list-requires
 list-requires c κs = search needs
@@ -93,7 +94,8 @@ returns c =
     let c₁₄ = c₁₃ .before .before .before in
     let s = c₁₄ .args in
     collect-is (s .b) (s .m .now) (s .c) (s .t)
-    (c₁₃ .current .ensures) (c₁₂ .child-of .ensures) (c₁₁ .three-place .ensures .0) (c₁₀ .list .ensures) (c₉ .read-word .ensures) (c₈ .read-word2 .ensures) (c₇ .read-word3 .ensures)
+    (c₁₃ .current .ensures) (c₁₂ .child-of .ensures) (c₁₁ .three-place .ensures .0) (c₁₀ .list .ensures) (c₉ .read-word .ensures) (c₈ .read-word2 .ensures)
+    (c₇ .read-word3 .ensures)
     (c₆ .mapping .ensures) (c₅ .page-of .ensures) (c₄ .mapping2 .ensures) (c₃ .page-of2 .ensures) (c₂ .drop-listed .ensures) (c₁ .return-chained .ensures)
 
 pub collect-effect-spec : {M : Type 1} → statement M

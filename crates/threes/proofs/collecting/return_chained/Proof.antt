@@ -24,9 +24,11 @@ same-length c = search needs
 
 returns : tie.Need-returns
 returns c =
+    let return-all = c .before .before .before .before .before .before .before .before .before .before .return-all in
+    let write-word = c .before .before .before .before .before .before .write-word in
     let s = c .before .before .before .before .before .before .before .before .before .before .before .before .before .before .args in
     c .before .before .write-word2 .ensures ∙ ap (λ (x : List ℕ). put (s .b) x (s .second .0) 0 (s .y))
-    (c .before .before .before .before .before .before .write-word .ensures ∙ ap (λ (x : List ℕ). put (s .b) x (s .first .0) 0 (s .x)) (c .before .before .before .before .before .before .before .before .before .before .return-all .ensures))
+    (write-word .ensures ∙ ap (λ (x : List ℕ). put (s .b) x (s .first .0) 0 (s .x)) (return-all .ensures))
 
 pub return-chained-spec : {M : Type 1} → statement M
 return-chained-spec =

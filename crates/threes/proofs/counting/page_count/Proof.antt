@@ -33,7 +33,8 @@ returns-2 c =
     let s = c .before .before .before .before .before .args in
     let r = c .before .before .before .count-refusal in
     let call = pageCount (s .c) (s .t) in
-    done (s .b) (s .m .now) call (r .result) (r .ensures .0) (c .before .pages-lacking .result) (c .reply2 .ensures) (c .before .pages-lacking .ensures) refl (c .before .before .if1 .left)
+    done (s .b) (s .m .now) call (r .result) (r .ensures .0) (c .before .pages-lacking .result) (c .reply2 .ensures) (c .before .pages-lacking .ensures) refl
+    (c .before .before .if1 .left)
 
 pub page-count-spec : {M : Type 1} → statement M
 page-count-spec =

@@ -24,9 +24,11 @@ same-length c = search needs
 
 returns : tie.Need-returns
 returns c =
+    let index = c .before .before .before .before .before .before .before .before .index in
+    let put-words = c .before .before .before .before .before .before .put-words in
     let s = c .before .before .before .before .before .before .before .before .before .before .before .args in
     c .before .before .write-word .ensures ∙ ap (λ (x : List ℕ). put (s .b) x (s .l .0) 0 (s .free + 6))
-    (c .before .before .before .before .before .before .put-words .ensures ∙ ap (λ (i : ℕ). overwrite (s .m .now) i (s .ws .now)) (c .before .before .before .before .before .before .before .before .index .ensures .0))
+    (put-words .ensures ∙ ap (λ (i : ℕ). overwrite (s .m .now) i (s .ws .now)) (index .ensures .0))
 
 pub append-three-spec : {M : Type 1} → statement M
 append-three-spec =

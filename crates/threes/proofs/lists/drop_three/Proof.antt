@@ -77,7 +77,8 @@ returns c =
     let s = c₆ .args in
     let r = c₄ .save in
     let buf = r .last .1 .1 .1 .1 .1 .0 in
-    drop-three-is (s .b) (c₆ .pre .0 .0) (s .m .now) (s .l .0) (s .j) (c₆ .pre .1) (c₅ .read-word .result) (r .result) buf (c₂ .put-words .last .0) (c₁ .write-word .last .1 .0)
+    drop-three-is (s .b) (c₆ .pre .0 .0) (s .m .now) (s .l .0) (s .j) (c₆ .pre .1) (c₅ .read-word .result) (r .result) buf (c₂ .put-words .last .0)
+    (c₁ .write-word .last .1 .0)
     (c₅ .read-word .ensures) (r .ensures .1) (r .ensures .0)
     (c₂ .put-words .ensures ∙ ap₂ (λ (i k : ℕ). overwrite (s .m .now) i (take k buf)) (c₃ .index .ensures .0) (sub-zero (r .result + 6)))
     (c₁ .write-word .ensures)

@@ -21,9 +21,11 @@ same-length c = search needs
 
 returns : tie.Need-returns
 returns c =
+    let write-word = c .before .before .before .before .before .before .before .before .before .before .write-word in
+    let write-word2 = c .before .before .before .before .before .before .write-word2 in
     let s = c .before .before .before .before .before .before .before .before .before .before .before .before .before .args in
     c .before .before .write-word3 .ensures ∙ ap (λ (x : List ℕ). put (s .b) x (s .r .shadow2 .0) (s .i) (s .z))
-    (c .before .before .before .before .before .before .write-word2 .ensures ∙ ap (λ (x : List ℕ). put (s .b) x (s .r .shadow1 .0) (s .i) (s .y)) (c .before .before .before .before .before .before .before .before .before .before .write-word .ensures))
+    (write-word2 .ensures ∙ ap (λ (x : List ℕ). put (s .b) x (s .r .shadow1 .0) (s .i) (s .y)) (write-word .ensures))
 
 pub put-three-spec : {M : Type 1} → statement M
 put-three-spec =

@@ -39,8 +39,9 @@ same-length c = search needs
 
 returns : tie.Need-returns
 returns c =
+    let least = c .before .before .before .before .before .least in
     let s = c .before .before .before .before .before .before .before .before .args in
-    let a = c .before .before .before .before .before .least .result in
+    let a = least .result in
     let e = c .before .before .before .before .least2 .result in
     ap (λ (l : List ℕ). take a (s .m .now) ++ (l ++ drop (e - a) (drop a (s .m .now)))) (c .before .before .copy .ensures)
     ∙ part-back (s .m .now) (s .i) (length (s .ws .now)) a e (s .ws .now) (le-refl (length (s .ws .now))) (omega arith) (omega arith)

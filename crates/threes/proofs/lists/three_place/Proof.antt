@@ -28,8 +28,9 @@ threes-requires c κs = search needs
 
 loop-holds : tie.Need-loop-holds Inv-loop μ-loop
 loop-holds c =
+    let s = c .before .before .before .before .args in
     let e : c .threes .result - 0 ≡ c .threes .result = omega arith in
-    (ap (λ (x : ℕ). placeOf (c .before .before .before .before .args .b) x 0 (c .before .before .before .before .args .m .now) (c .before .list .result .0) (c .before .before .table-for .result - 1)) e, omega arith)
+    (ap (λ (x : ℕ). placeOf (s .b) x 0 (s .m .now) (c .before .list .result .0) (c .before .before .table-for .result - 1)) e, omega arith)
 
 mul-read-word : tie.Need-mul-read-word Inv-loop μ-loop
 mul-read-word c = search needs
@@ -52,7 +53,8 @@ returns c =
     let s = c₇ .args in
     let p = c₃ .loop in (
       sym (place-here (s .b) (s .m .now) (c₅ .list .result .0) (c₆ .table-for .result - 1) (c₄ .threes .result) (p .j) (c₂ .loop-test .taken) (sym (c₁ .read-word .ensures) ∙ c .if1 .taken))
-          ∙ p .inv .0 ∙ place-is (s .b) (s .m .now) (s .k .0) (s .t) (c₄ .threes .result) (c₅ .list .result .0) (c₆ .table-for .result) (c₄ .threes .ensures) (c₅ .list .ensures) (c₆ .table-for .ensures),
+          ∙ p .inv .0 ∙ place-is (s .b) (s .m .now) (s .k .0) (s .t) (c₄ .threes .result) (c₅ .list .result .0) (c₆ .table-for .result) (c₄ .threes .ensures)
+          (c₅ .list .ensures) (c₆ .table-for .ensures),
       omega arith,
     )
 
@@ -72,15 +74,22 @@ loop-again c =
     let c₆ = c₅ .before in
     let c₇ = c₆ .before .before in
     let s = c₇ .args in
-    let p = c₃ .loop in
-    (sym (place-next (s .b) (s .m .now) (c₅ .list .result .0) (c₆ .table-for .result - 1) (c₄ .threes .result) (p .j) (c₂ .loop-test .taken) (λ q. c .if1 .left (c₁ .read-word .ensures ∙ q))) ∙ p .inv .0, omega arith)
+    let p = c₃ .loop in (
+      sym (place-next (s .b) (s .m .now) (c₅ .list .result .0) (c₆ .table-for .result - 1) (c₄ .threes .result) (p .j) (c₂ .loop-test .taken) (λ q. c .if1 .left (c₁ .read-word .ensures ∙ q)))
+          ∙ p .inv .0,
+      omega arith,
+    )
 
 returns-2 : tie.Need-returns-2 Inv-loop μ-loop
 returns-2 c =
+    let table-for = c .before .before .before .before .table-for in
+    let list = c .before .before .before .list in
+    let threes = c .before .before .threes in
     let s = c .before .before .before .before .before .before .args in
     let p = c .before .loop in (
-      sym (place-end (s .b) (s .m .now) (c .before .before .before .list .result .0) (c .before .before .before .before .table-for .result - 1) (c .before .before .threes .result) (p .j) (c .loop-test .left))
-          ∙ p .inv .0 ∙ place-is (s .b) (s .m .now) (s .k .0) (s .t) (c .before .before .threes .result) (c .before .before .before .list .result .0) (c .before .before .before .before .table-for .result) (c .before .before .threes .ensures) (c .before .before .before .list .ensures) (c .before .before .before .before .table-for .ensures),
+      sym (place-end (s .b) (s .m .now) (list .result .0) (table-for .result - 1) (threes .result) (p .j) (c .loop-test .left))
+          ∙ p .inv .0 ∙ place-is (s .b) (s .m .now) (s .k .0) (s .t) (threes .result) (list .result .0) (table-for .result) (threes .ensures) (list .ensures)
+          (table-for .ensures),
       omega arith,
     )
 

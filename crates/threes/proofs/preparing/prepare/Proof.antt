@@ -26,8 +26,9 @@ returns c =
 
 prepare-effect-requires : tie.Need-prepare-effect-requires
 prepare-effect-requires c κs =
+    let h = c .before .before .before .before .before .pre in
     let s = c .before .before .before .before .before .args in
-    (c .before .before .before .before .before .pre .0, prepare-few (s .b) (s .m .now) (s .c) (s .t) (s .p) (sym (c .before .before .prepare-refusal .ensures .0) ∙ c .before .if1 .left))
+    (h .0, prepare-few (s .b) (s .m .now) (s .c) (s .t) (s .p) (sym (c .before .before .prepare-refusal .ensures .0) ∙ c .before .if1 .left))
 
 reply-requires-2 : tie.Need-reply-requires-2
 reply-requires-2 c κs = search needs
@@ -38,10 +39,11 @@ same-length-2 c = search needs
 returns-2 : tie.Need-returns-2
 unfolding result
 returns-2 c =
+    let first = c .before .before .before .before .before .if1 in
     let s = c .before .before .before .before .before .before .before .before .before .args in
     let r = c .before .before .before .before .before .before .prepare-refusal in
     let call = prepare (s .c) (s .t) (s .p) in
-    done (s .b) (s .m .now) call (r .result) (r .ensures .0) 0 (c .reply2 .ensures) refl (c .before .before .before .prepare-effect .ensures) (c .before .before .before .before .before .if1 .left)
+    done (s .b) (s .m .now) call (r .result) (r .ensures .0) 0 (c .reply2 .ensures) refl (c .before .before .before .prepare-effect .ensures) (first .left)
 
 pub prepare-spec : {M : Type 1} → statement M
 prepare-spec =

@@ -98,8 +98,10 @@ returns c =
     let c₁₆ = c₁₅ .before .before .before in
     let s = c₁₆ .args in
     prepare-is (s .b) (s .m .now) (s .c) (s .t) (s .p)
-    (c₁₅ .current .ensures) (c₁₄ .child-of .ensures) (c₁₃ .list .ensures) (c₁₂ .read-word .ensures) (c₁₁ .roots-of .ensures .0) (c₁₁ .roots-of .ensures .1) (c₁₁ .roots-of .ensures .2)
-    (c₁₀ .virtual-page .ensures) (c₉ .directory-index .ensures) (c₈ .link .ensures) (c₇ .link2 .ensures) (c₆ .frame-at .ensures .0) (c₅ .frame-at2 .ensures .0) (c₄ .frame-at3 .ensures .0)
+    (c₁₅ .current .ensures) (c₁₄ .child-of .ensures) (c₁₃ .list .ensures) (c₁₂ .read-word .ensures) (c₁₁ .roots-of .ensures .0) (c₁₁ .roots-of .ensures .1)
+    (c₁₁ .roots-of .ensures .2)
+    (c₁₀ .virtual-page .ensures) (c₉ .directory-index .ensures) (c₈ .link .ensures) (c₇ .link2 .ensures) (c₆ .frame-at .ensures .0) (c₅ .frame-at2 .ensures .0)
+    (c₄ .frame-at3 .ensures .0)
     (c₃ .take-all .ensures) (c₂ .put-three .ensures) (c₁ .append-three .ensures)
 
 pub prepare-effect-spec : {M : Type 1} → statement M
