@@ -14,7 +14,6 @@ use Rattle.rules.specs.Call.{Call}
 use Rattle.rules.specs.Replay.{argumentCount, knownCall, callOf, push, records}
 use Rattle.script.specs.Walk.{wholeRecord, nextRecord, argumentAt, callAt}
 use Rattle.script.proofs.Walks.{known?, whole?}
-use Rattle.assembly.specs.Text.{words}
 use Rattle.assembly.specs.Numbers.{number, isNumber}
 use Rattle.assembly.specs.Names.{names, same, placeFrom, named, callNumber}
 use Rattle.assembly.specs.Lines.{arguments, recordOf}

@@ -1,6 +1,5 @@
 -- The parts of a page table word. Assumes nothing.
 use mathlib.Core.Path.{_≡_, ap, _∙_, subst}
-use mathlib.Core.Logic.{_≢_}
 use Prim.Native.Nat.{ℕ, _+_, _-_, _*_, _/_, _%_, _^_, _≤_, _<_}
 use native.Mathlib.Nat.{mul-comm, mul-left-comm}
 use native.Mathlib.Omega.{arith}
@@ -37,6 +36,3 @@ module _ (b p a r : ℕ) (wide : 3 ≤ b) (ha : a < 2) (hr : r < 8) where
 
   pub entry-rights : rights (entry b p a r) ≡ r
   entry-rights = ap (λ (x : ℕ). x / 4 % 8) flags ∙ omega arith
-
-  pub entry-present : entry b p a r ≢ 0
-  entry-present = omega arith

@@ -1,11 +1,11 @@
--- The split of an address and its joining again, over every width; T is the smallest number that document 01 asks for. Assumes nothing.
+-- The parts of an address, over every width; T is the smallest number that document 01 asks for. Assumes nothing.
 use mathlib.Core.Path.{_≡_, sym, ap, _∙_, subst}
 use Prim.Native.Nat.{ℕ, _+_, _-_, _*_, _/_, _%_, _^_, _≤_, _<_}
-use native.Mathlib.Nat.{mul-comm, mul-assoc, mul-lt-mul-of-pos-right, div-add-mod', mod-lt, mul-pos, le-of-suc-le-suc, suc-mul, div-lt-iff-lt-mul, lt-div-mul-add}
+use native.Mathlib.Nat.{mul-comm, mul-assoc, mul-lt-mul-of-pos-right, mod-lt, mul-pos, le-of-suc-le-suc, suc-mul, div-lt-iff-lt-mul, lt-div-mul-add}
 use native.Mathlib.Omega.{arith}
-use lib.Arith.{digits-lt, digits-div, digits-mod}
+use lib.Arith.{digits-lt, digits-div}
 use lib.Pow.{pow-pos, pow-add, high, low}
-use Rattle.memory.specs.Geometry.{pageWords, pageBytes, addressEnd, address, pageOf, directoryIndex, tableIndex, place, threesFor}
+use Rattle.memory.specs.Geometry.{pageWords, pageBytes, addressEnd, address, pageOf, directoryIndex, place, threesFor}
 use Rattle.memory.specs.Words.{index}
 
 pub index-page : (b p i : ℕ) → i < pageWords b → index b p i / pageWords b ≡ p
@@ -20,16 +20,10 @@ index-inj b p q i j h k e = (
   sym (index-place b p i h) ∙ ap (λ (x : ℕ). x % pageWords b) e ∙ index-place b q j k,
 )
 
--- ---- a virtual address: split, and joined again
+-- ---- a virtual address and its parts
 
 pub bytes-pos : (b : ℕ) → 0 < pageBytes b
 bytes-pos b = mul-pos {m = 4} (omega arith) (pow-pos b)
-
-pub join : (b v : ℕ) → (directoryIndex b (pageOf b v) * pageWords b + tableIndex b (pageOf b v)) * pageBytes b + place b v ≡ v
-join b v = ap (λ (x : ℕ). x * pageBytes b + place b v) (div-add-mod' (v / pageBytes b) (pageWords b)) ∙ div-add-mod' v (pageBytes b)
-
-pub tableIndex-lt : (b v : ℕ) → tableIndex b (pageOf b v) < pageWords b
-tableIndex-lt b v = mod-lt (v / pageBytes b) (pow-pos b)
 
 pub place-lt : (b v : ℕ) → place b v < pageBytes b
 place-lt b v = mod-lt v (bytes-pos b)
@@ -61,16 +55,6 @@ directoryIndex-lt b v h =
 pub address-lt : (b d t : ℕ) → d < pageWords b → t < pageWords b → address b (d * pageWords b + t) < addressEnd b
 address-lt b d t h k =
     subst (λ (e : ℕ). address b (d * pageWords b + t) < e) (sym (addressEnd-is b)) (mul-lt-mul-of-pos-right (digits-lt h k) (bytes-pos b))
-
--- the indices of a page number, which is cut as a page's address is
-pub split-directory : (b d t o : ℕ) → t < pageWords b → o < pageBytes b → directoryIndex b (pageOf b ((d * pageWords b + t) * pageBytes b + o)) ≡ d
-split-directory b d t o h k = ap (λ (x : ℕ). x / pageWords b) (digits-div (d * pageWords b + t) k) ∙ digits-div d h
-
-pub split-table : (b d t o : ℕ) → t < pageWords b → o < pageBytes b → tableIndex b (pageOf b ((d * pageWords b + t) * pageBytes b + o)) ≡ t
-split-table b d t o h k = ap (λ (x : ℕ). x % pageWords b) (digits-div (d * pageWords b + t) k) ∙ digits-mod d h
-
-pub split-place : (b d t o : ℕ) → t < pageWords b → o < pageBytes b → place b ((d * pageWords b + t) * pageBytes b + o) ≡ o
-split-place b d t o h k = digits-mod (d * pageWords b + t) k
 
 -- ---- "T is the smallest number with 67T ≥ N−5"
 

@@ -1,7 +1,7 @@
 -- Take and return change exactly the accessible bit of the page table words on the way up. Assumes nothing.
 use mathlib.Core.Path.{_≡_, refl, sym, ap, ap₂, _∙_, subst}
 use mathlib.Core.List.{List, [], _∷_, _++_}
-use mathlib.Core.Bool.{Bool, true, false, cond, _||_, or-assoc, true≢false, false≢true}
+use mathlib.Core.Bool.{Bool, true, false, cond, _||_, true≢false, false≢true}
 use Prim.Native.Nat.{ℕ, zero, suc, _+_, _≤_, _<_}
 use native.Mathlib.Omega.{arith}
 use borrow.Author.Tests.{eqb-true, eqb-false}
@@ -34,10 +34,6 @@ module _ (b : ℕ) where
   false-or : (s t : Bool) → (s || t) ≡ false → (s ≡ false) × (t ≡ false)
   false-or true t e = absurd (true≢false e)
   false-or false t e = (refl, e)
-
-  any-append : (f : ℕ → Bool) (xs ys : List ℕ) → any f (xs ++ ys) ≡ (any f xs || any f ys)
-  any-append f [] ys = refl
-  any-append f (x ∷ xs) ys = ap (λ (t : Bool). f x || t) (any-append f xs ys) ∙ sym (or-assoc (f x) (any f xs) (any f ys))
 
   -- one store, of a word whose table may be absent
   one-other : (t : Bool) (m : List ℕ) (i x j : ℕ) → any (eqb j) (cond t [] (i ∷ [])) ≡ false → getD (cond t m (set m i x)) j 0 ≡ getD m j 0

@@ -11,9 +11,9 @@ use lib.ListN.{length, getD}
 use borrow.Author.Tests.{le-leb, lt-leb, eqb-true}
 use Rattle.walk.specs.Reflect.{Tells, both, le?}
 use Rattle.rules.specs.Bytes.{wordIn}
-use Rattle.rules.specs.Call.{Call, createPartition, deletePartition, addVAddr, removeVAddr, pageCount, prepare, collect, mappedInChild, enter, leave, load, store}
-use Rattle.rules.specs.Replay.{argumentCount, knownCall, callOf, push, records}
-use Rattle.script.specs.Walk.{isScript, wholeRecord, nextRecord, argumentAt, callAt}
+use Rattle.rules.specs.Call.{Call}
+use Rattle.rules.specs.Replay.{argumentCount, knownCall, push, records}
+use Rattle.script.specs.Walk.{isScript, wholeRecord, nextRecord, callAt}
 
 -- ---- the table of argument counts
 
@@ -68,61 +68,6 @@ module _ (bs : List ℕ) (i : ℕ) where
       pick : Dec (nextRecord bs i ≤ length bs) → leb (4 * argumentCount (wordIn bs i)) (length bs - i - 4) ≡ leb (nextRecord bs i) (length bs)
       pick (yes l) = le-leb n (length bs - i - 4) (omega arith) ∙ sym (le-leb (nextRecord bs i) (length bs) l)
       pick (no f) = lt-leb n (length bs - i - 4) (omega arith) ∙ sym (lt-leb (nextRecord bs i) (length bs) (omega arith))
-
-  -- the call, and how many arguments it has, by its number
-  called : (n : ℕ) → wordIn bs i ≡ n → callAt bs i ≡ callOf n (argumentAt bs i)
-  called n e = ap (λ (k : ℕ). callOf k (argumentAt bs i)) e
-
-  pub counted : (n j : ℕ) → wordIn bs i ≡ n → j < argumentCount n → j < argumentCount (wordIn bs i)
-  counted n j e h = subst (λ (k : ℕ). j < argumentCount k) (sym e) h
-
-  pub create-at : wordIn bs i ≡ 1 → callAt bs i ≡ createPartition (argumentAt bs i 0) (argumentAt bs i 1) (argumentAt bs i 2) (argumentAt bs i 3) (argumentAt bs i 4)
-  unfolding callOf
-  create-at e = called 1 e
-
-  pub delete-at : wordIn bs i ≡ 2 → callAt bs i ≡ deletePartition (argumentAt bs i 0)
-  unfolding callOf
-  delete-at e = called 2 e
-
-  pub add-at : wordIn bs i ≡ 3 → callAt bs i ≡ addVAddr (argumentAt bs i 0) (argumentAt bs i 1) (argumentAt bs i 2) (argumentAt bs i 3)
-  unfolding callOf
-  add-at e = called 3 e
-
-  pub remove-at : wordIn bs i ≡ 4 → callAt bs i ≡ removeVAddr (argumentAt bs i 0) (argumentAt bs i 1)
-  unfolding callOf
-  remove-at e = called 4 e
-
-  pub count-at : wordIn bs i ≡ 5 → callAt bs i ≡ pageCount (argumentAt bs i 0) (argumentAt bs i 1)
-  unfolding callOf
-  count-at e = called 5 e
-
-  pub prepare-at : wordIn bs i ≡ 6 → callAt bs i ≡ prepare (argumentAt bs i 0) (argumentAt bs i 1) (argumentAt bs i 2)
-  unfolding callOf
-  prepare-at e = called 6 e
-
-  pub collect-at : wordIn bs i ≡ 7 → callAt bs i ≡ collect (argumentAt bs i 0) (argumentAt bs i 1)
-  unfolding callOf
-  collect-at e = called 7 e
-
-  pub mapped-at : wordIn bs i ≡ 8 → callAt bs i ≡ mappedInChild (argumentAt bs i 0)
-  unfolding callOf
-  mapped-at e = called 8 e
-
-  pub enter-at : wordIn bs i ≡ 9 → callAt bs i ≡ enter (argumentAt bs i 0)
-  unfolding callOf
-  enter-at e = called 9 e
-
-  pub leave-at : wordIn bs i ≡ 10 → callAt bs i ≡ leave
-  unfolding callOf
-  leave-at e = called 10 e
-
-  pub load-at : wordIn bs i ≡ 11 → callAt bs i ≡ load (argumentAt bs i 0)
-  unfolding callOf
-  load-at e = called 11 e
-
-  pub store-at : wordIn bs i ≡ 12 → callAt bs i ≡ store (argumentAt bs i 0) (argumentAt bs i 1)
-  unfolding callOf
-  store-at e = called 12 e
 
 -- ---- all records
 

@@ -9,7 +9,7 @@ use lib.ListN.{getD}
 use borrow.Author.Tests.{eq-eqb}
 use Rattle.walk.specs.Tree as Tr
 use Rattle.walk.specs.Walk as W
-use Rattle.memory.specs.Geometry.{pageWords, address, pageOf, threesFor, mostDepth}
+use Rattle.memory.specs.Geometry.{pageWords, pageOf, threesFor, mostDepth}
 use Rattle.memory.specs.Words.{word}
 use Rattle.memory.specs.Partition.{pages, current, list, parent, threes, tableFor, tableWord, mapping, above}
 use Rattle.walk.specs.Reflect.{Tells, via, both}

@@ -1,6 +1,6 @@
 -- Judging a tree of partitions by one walk that marks each page, against what it is to mean. `kids d` lists the children of d, `own d` the pages
 -- that d uses, `ok d` tests what d has to meet by itself. Assumes nothing of the three but, where it says so, that a partition uses its own page.
-use mathlib.Core.Path.{_≡_, refl, sym, ap, _∙_, subst}
+use mathlib.Core.Path.{_≡_, refl, sym, ap, _∙_}
 use mathlib.Core.List.{List, _++_}
 use mathlib.Core.Bool.{Bool, true, false}
 use mathlib.Core.Option.{Option, none, some}
@@ -11,7 +11,7 @@ use native.Mathlib.Decide.{decLt}
 use lib.ListN.{length, getD, replicate, length-replicate, getD-replicate, List·getD-eq-default, length-append}
 use Rattle.walk.specs.Lists.{hit, hit-same, count, count-at, same-at, flat, flat-flat, flat-many, sumOf, sum-add, sum-ext, length-flat, exactly}
 use Rattle.walk.specs.Marks.{Seen, andThen, andThen-is, andThen-ext, each, marks, marked, can-mark, each-in, each-marks, marks-append}
-use Rattle.walk.specs.Tree.{InTree, top, under, Spot, walk, walk-in, in-walk, once-below, walk-once, spot-count, count-spot, spot-same, same-spot, spot-of, spots-one, spots-two}
+use Rattle.walk.specs.Tree.{InTree, top, under, Spot, walk, once-below, walk-once, spot-count, count-spot, spot-same, same-spot, spot-of, spots-one, spots-two}
 
 -- each page 1 .. n - 1 has its mark
 abbrev pub Full : ℕ → Seen → Type 0
@@ -215,19 +215,6 @@ module _ (kids own : ℕ → List ℕ) (ok : ℕ → Bool) where
   pub judge-iff : ((d : ℕ) → 0 < count d (own d)) → (m n r : ℕ) → ((s : Seen) × (judge m (clear n) r ≡ some s) × Full n s) ↔ Good m n r
   judge-iff self m n r = ((λ (s, e, f). judge-good self m n r s e f), good-judge m n r)
 
-  -- for code: the judge's answer in hand, the marks decide
-  pub judge-full : ((d : ℕ) → 0 < count d (own d)) → (m n r : ℕ) (s : Seen) → judge m (clear n) r ≡ some s → Full n s ↔ Good m n r
-  judge-full self m n r s e = (judge-good self m n r s e, λ g. same (good-judge m n r g))
-    where
-      same : (t : Seen) × (judge m (clear n) r ≡ some t) × Full n t → Full n s
-      same (t, q, f) = let u : t ≡ s = cc in subst (Full n) u f
-
-  pub judge-refused : (m n r : ℕ) → judge m (clear n) r ≡ none → Good m n r → ⊥
-  judge-refused m n r e g = never (good-judge m n r g)
-    where
-      never : (t : Seen) × (judge m (clear n) r ≡ some t) × Full n t → ⊥
-      never (t, q, f) = let z : _≡_ {A = ℕ} 0 1 = cc in omega arith
-
   -- where each partition notes its parent, the two clauses on places come to three simple ones
   pub by-parent : (r : ℕ) (up : ℕ → ℕ)
       → ((k d c : ℕ) → InTree kids r k d → 0 < count c (kids d) → up c ≡ d)
@@ -250,13 +237,6 @@ module _ (kids own : ℕ → List ℕ) (ok : ℕ → Bool) where
   parts m r = walk kids (suc m) r
 
   module _ (m n r : ℕ) (g : Good m n r) where
-    -- the tree's partitions, each once
-    pub parts-in : (k d : ℕ) → InTree kids r k d → count d (parts m r) ≡ 1
-    parts-in k d t = omega (arith, in-walk kids (suc m) d r k (good-deep m n r g k d t) t, good-once m n r g d)
-
-    pub in-parts : (d : ℕ) → 0 < count d (parts m r) → (k : ℕ) × InTree kids r k d
-    in-parts d h = let (k, a, t) = walk-in kids (suc m) d r h in (k, t)
-
     pub used : 0 < n → suc (sumOf (λ d. length (own d)) (parts m r)) ≡ n
     unfolding pages
     used h = let c = good-core m n r g in omega (arith, length-flat own (parts m r), exactly n (pages (suc m) r) h (c .ones) (c .inside))
@@ -273,39 +253,3 @@ module _ (kids own : ℕ → List ℕ) (ok : ℕ → Bool) where
     pub split-root : 0 < n → (kern hand : ℕ → List ℕ) → ((d : ℕ) → own d ≡ kern d ++ hand d) → suc (length (kern r) + (sumOf (λ d. length (hand d)) (parts m r) + sumOf (λ d. length (kern d)) (flat (walk kids m) (kids r)))) ≡ n
     unfolding walk sumOf
     split-root h kern hand e = omega (arith, split h kern hand e)
-
--- ---- what is read of the three is their values in the tree: where others agree there, the tree is the same and so is what is asked of it
-
-module _ (kids kids′ : ℕ → List ℕ) (r : ℕ) (same : (k d : ℕ) → InTree kids r k d → kids′ d ≡ kids d) where
-  pub tree-there : {k d : ℕ} → InTree kids r k d → InTree kids′ r k d
-  tree-there top = top
-  tree-there (under {k = k} {d = d} {c = c} t h) = under (tree-there t) (subst (λ (l : List ℕ). 0 < count c l) (sym (same k d t)) h)
-
-  pub tree-back : {k d : ℕ} → InTree kids′ r k d → InTree kids r k d
-  tree-back top = top
-  tree-back (under {k = k} {d = d} {c = c} t h) = under (tree-back t) (subst (λ (l : List ℕ). 0 < count c l) (same k d (tree-back t)) h)
-
-  pub spot-back : (f f′ : ℕ → List ℕ) → ((k d : ℕ) → InTree kids r k d → f′ d ≡ f d) → (x : ℕ) (u : Spot kids′ f′ r x) → Spot kids f r x
-  spot-back f f′ e x u =
-      let t = tree-back (u .tree) in
-      let q = e (u .depth) (u .part) t in
-      record { depth = u .depth; part = u .part; at = u .at; tree = t; bound = subst (λ (l : List ℕ). u .at < length l) q (u .bound); is = subst (λ (l : List ℕ). getD l (u .at) 0 ≡ x) q (u .is) }
-
-  pub spot-there : (f f′ : ℕ → List ℕ) → ((k d : ℕ) → InTree kids r k d → f′ d ≡ f d) → (x : ℕ) (u : Spot kids f r x) → Spot kids′ f′ r x
-  spot-there f f′ e x u =
-      let q = sym (e (u .depth) (u .part) (u .tree)) in
-      record { depth = u .depth; part = u .part; at = u .at; tree = tree-there (u .tree); bound = subst (λ (l : List ℕ). u .at < length l) q (u .bound); is = subst (λ (l : List ℕ). getD l (u .at) 0 ≡ x) q (u .is) }
-
-  pub good-same : (own own′ : ℕ → List ℕ) (ok ok′ : ℕ → Bool)
-      → ((k d : ℕ) → InTree kids r k d → own′ d ≡ own d) → ((k d : ℕ) → InTree kids r k d → ok′ d ≡ ok d)
-      → (m n : ℕ) → Good kids own ok m n r → Good kids′ own′ ok′ m n r
-  unfolding spot-back
-  good-same own own′ ok ok′ eo ek m n g = record {
-    fine = λ k d t. ek k d (tree-back t) ∙ g .fine k d (tree-back t);
-    deep = λ k d t. g .deep k d (tree-back t);
-    one-parent = λ c u v. g .one-parent c (spot-back kids kids′ same c u) (spot-back kids kids′ same c v);
-    no-parent = λ u. g .no-parent (spot-back kids kids′ same r u);
-    inside = λ p u. g .inside p (spot-back own own′ eo p u);
-    found = λ p a b. spot-there own own′ eo p (g .found p a b);
-    same = λ p u v. g .same p (spot-back own own′ eo p u) (spot-back own own′ eo p v);
-  }

@@ -1,6 +1,5 @@
 -- The state that format leaves, and that it is well formed: the laws can be met.
 use mathlib.Core.Path.{_≡_, refl, sym, ap, _∙_, subst}
-use mathlib.Core.Bool.{false}
 use mathlib.Core.Option.{Option, none, some}
 use mathlib.Core.List.{List, [], _∷_, _++_}
 use Prim.Native.Nat.{ℕ, zero, suc, _+_, _-_, _*_, _/_, _%_, _≤_, _<_}
@@ -10,7 +9,7 @@ use lib.ListN.{length}
 use Rattle.rules.proofs.model.Base.{eqd, pick, pick-yes, pick-no}
 use lib.ListN.{length-append}
 use Rattle.rules.proofs.model.Words.{W, idx, idx-lt, cover-lt}
-use Rattle.rules.proofs.model.Abs.{Kind, pt, s1, s2, Role, header, hand, desc, root, lst, tab, Hop, Three, Abs, parts, Seen, seek, threeAt, Good, Owner, Tabs, WF, isHand}
+use Rattle.rules.proofs.model.Abs.{Kind, pt, s1, s2, Role, header, hand, desc, root, lst, tab, Hop, Three, Abs, parts, Seen, seek, threeAt, Good, Owner, Tabs, WF}
 use Rattle.rules.proofs.model.Facts.{nil-cons, none-some, some-inj, differ, seek-here}
 use Rattle.rules.proofs.steps.Prep.{at-here, at-on, at-nil, at-append, at-last, tabs-append}
 
@@ -153,17 +152,6 @@ module _ (N T : ℕ) where
   out : (q : ℕ) → 6 + 3 * T ≤ q → N ≤ q → chain0 q ≡ []
   unfolding chain0
   out q a β = pick-no (decLt q (6 + 3 * T)) [] _ (λ l. omega arith) ∙ pick-no (decLt q N) _ [] (λ l. omega arith)
-
-  kernel-low : (q : ℕ) → isHand (role0 q) ≡ false → q < 6 + 3 * T
-  kernel-low q h = go (view q)
-    where
-      go : View q → q < 6 + 3 * T
-      go (v-head e r) = omega arith
-      go (v-desc e r) = omega arith
-      go (v-root k e r) = omega (arith, kind-lt k)
-      go (v-lst e r) = omega arith
-      go (v-tab n e l r) = omega arith
-      go (v-hand l r) = let z : _≡_ {A = ℕ} 0 1 = cc in absurd (omega arith)
 
   hand-high : (q : ℕ) → role0 q ≡ hand → 6 + 3 * T ≤ q
   hand-high q h = go (view q)

@@ -13,18 +13,10 @@ use Rattle.memory.specs.Partition
 use Rattle.memory.proofs.Geometry.{bytes-pos, directoryIndex-lt}
 use Rattle.rules.specs.Conditions.{badPage}
 use Rattle.rules.proofs.model.Words.{W, addr, pageOf, word, idx}
-use Rattle.rules.proofs.model.Abs.{pt, s1, s2}
-use Rattle.rules.proofs.model.Read.{rootPage, tableAt, entryAt, putAt}
+use Rattle.rules.proofs.model.Abs.{pt, s1}
+use Rattle.rules.proofs.model.Read.{rootPage, tableAt, entryAt}
 
 module _ (b : ℕ) (m : List ℕ) where
-  pub current-is : Partition.current b m ≡ pageOf b (word b m 0 4)
-  unfolding pageOf word
-  current-is = refl
-
-  pub parent-is : (d : ℕ) → Partition.parent b m d ≡ pageOf b (word b m d 11)
-  unfolding pageOf word
-  parent-is d = refl
-
   pub list-is : (d : ℕ) → Partition.list b m d ≡ pageOf b (word b m d 9)
   unfolding pageOf word
   list-is d = refl
@@ -41,22 +33,6 @@ module _ (b : ℕ) (m : List ℕ) where
     pub lent-is : Partition.lent b m d v ≡ entryAt b m s1 d (pageOf b v)
     unfolding entryAt rootPage pageOf
     lent-is = refl
-
-    pub above-is : Partition.above b m d v ≡ entryAt b m s2 d (pageOf b v)
-    unfolding entryAt rootPage pageOf
-    above-is = refl
-
-    pub setMapping-is : (x : ℕ) → Partition.setMapping b m d v x ≡ putAt b m pt d (pageOf b v) x
-    unfolding putAt rootPage pageOf
-    setMapping-is x = refl
-
-    pub setLent-is : (x : ℕ) → Partition.setLent b m d v x ≡ putAt b m s1 d (pageOf b v) x
-    unfolding putAt rootPage pageOf
-    setLent-is x = refl
-
-    pub setAbove-is : (x : ℕ) → Partition.setAbove b m d v x ≡ putAt b m s2 d (pageOf b v) x
-    unfolding putAt rootPage pageOf
-    setAbove-is x = refl
 
 -- ---- an argument that is not refused
 

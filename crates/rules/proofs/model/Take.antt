@@ -68,10 +68,6 @@ module _ {b : ℕ} (wide : 6 ≤ b) where
     pub held-first : (o v p : ℕ) → Held A o v p → First A o p
     held-first o v p h = record { hop = h .hop; rest = h .rest; is = h .is; part = h .part }
 
-    pub held-maps : (o v p : ℕ) → Held A o v p → A .maps o v ≡ some p
-    unfolding held-first
-    held-maps o v p h = rw (h .vp) at (first-maps o p (held-first o v p h))
-
     -- one place, one page
     pub held-one : (o v u p : ℕ) → Held A o v p → Held A o u p → v ≡ u
     held-one o v u p h k =

@@ -18,7 +18,7 @@ use Rattle.rules.proofs.model.Apart.{pt-s1, pt-s2}
 use Rattle.rules.proofs.model.Facts.{in-range, nil-cons, length-parts, seek-here, seek-on, seek-nil, none-some, some-inj}
 use Rattle.rules.proofs.model.Read.{rootPage, entryAt, putAt, entry-three, kernel-lt, cell-none, cell-some}
 use Rattle.rules.proofs.model.Cells.{updC, updC-same, updC-other, set-cell}
-use Rattle.rules.proofs.model.Roles.{setRole, isFree, up, role-wf, true-false}
+use Rattle.rules.proofs.model.Roles.{setRole, isFree, role-wf, true-false}
 
 module _ (b : ℕ) where
   -- on the words: at most n partitions, up to the one with no parent

@@ -4,7 +4,6 @@ use mathlib.Core.List.{List}
 use Prim.Native.Nat.{ℕ, _*_, _≤_, _<_}
 use native.Mathlib.Omega.{arith}
 use lib.ListN.{length}
-use Rattle.memory.specs.Partition.{threes}
 use Rattle.memory.specs.Tree.{Child, InTree}
 use Rattle.memory.specs.Sound.{Agrees, ChildRight, Children}
 use Rattle.rules.proofs.model.Words.{addr}

@@ -5,7 +5,6 @@ use mathlib.Core.Bool.{true}
 use mathlib.Core.Option.{Option, none, some}
 use mathlib.Core.List.{List, _∷_}
 use Prim.Native.Nat.{ℕ, _≤_, _<_}
-use native.Mathlib.Omega.{arith}
 use Rattle.rules.proofs.model.Base.{eqd, both, upd-same, upd-other, upd2-same, upd2-other}
 use Rattle.rules.proofs.model.Words.{W, addr, put, idx, off, pte, pageOf, accOf, rightsOf, pte-nz}
 use Rattle.rules.proofs.model.Abs.{Kind, pt, s1, s2, desc, tab, Abs, headV, Seen, seek, Sub, Good, WF, Cells, Encodes, isHand, lentWord, seenWord, cell}
@@ -14,9 +13,6 @@ use Rattle.rules.proofs.model.Facts.{seek-here, seek-on, none-some, som
 use Rattle.rules.proofs.model.Read.{tablePage, tableAt, three-there, entryAt, entry-is, entry-three, maps-three, cell-none, cell-some, kernel-lt, hand-view, child-view}
 use Rattle.rules.proofs.model.Cells.{updC, updC-same, updC-other, put-cell, tab-one, rechained}
 use Rattle.rules.proofs.steps.Add.{AddPre, newHop, addA, add-keep, add-keep-desc, add-new, add-wf}
-
-kinds : {P : Type 0} {k : Kind} → k ≡ pt → k ≡ s1 → P
-kinds a β = let z : _≡_ {A = ℕ} 0 1 = cc in absurd (omega arith)
 
 module _ {b : ℕ} (wide : 6 ≤ b) where
   module _ (N : ℕ) (fl : ℕ → Option ℕ) (A : Abs) (wf : WF b N fl A) (o p c t r : ℕ) (pre : AddPre b A o p c t r) where

@@ -5,19 +5,18 @@ use mathlib.Core.List.{List, [], _∷_, _++_}
 use Prim.Native.Nat.{ℕ, suc, _+_, _-_, _*_, _≤_}
 use native.Mathlib.Omega.{arith}
 use lib.ListN.{length}
-use Rattle.memory.specs.Geometry
 use Rattle.memory.specs.Partition
 use Rattle.rules.specs.Conditions
 use Rattle.rules.specs.Effects.{placeOf, threePlace}
 use Rattle.rules.proofs.model.Words.{addr, word, pte-nz, link, idx, off, off-lt, pageOf}
-use Rattle.rules.proofs.model.Abs.{Kind, pt, Role, desc, Hop, Three, Abs, parts, headV, threeAt, Owner, WF, Encodes, cell, linkWord}
+use Rattle.rules.proofs.model.Abs.{Kind, pt, Role, Hop, Three, Abs, parts, headV, threeAt, Owner, WF, Encodes, cell, linkWord}
 use Rattle.rules.proofs.model.Apart.{cons-head, tab-kind}
 use Rattle.rules.proofs.model.Facts.{nil-cons, parts-of}
 use Rattle.rules.proofs.model.Read.{entryAt, entry-there, entry-three, three-there, table-word, cell-pt, ThreeIs, three-is}
 use Rattle.rules.proofs.model.Names.{tableFor-is}
 use Rattle.rules.proofs.steps.Fill.{First}
 use Rattle.rules.proofs.steps.Collect.{CollPre}
-use Rattle.rules.proofs.model.Inv.{Inv, named, live}
+use Rattle.rules.proofs.model.Inv.{Inv, named}
 use Rattle.rules.proofs.steps.ChainChecks.{CollectChecks}
 use Rattle.rules.proofs.steps.ListPage.{list-page, threes-is}
 use Rattle.rules.proofs.steps.ChildPage.{ChildOf, child-of}
@@ -73,9 +72,6 @@ module _ {b : ℕ} (wide : 6 ≤ b) (m : List ℕ) (i : Inv b m) (c t : ℕ) (ck
 
   abbrev x : ℕ
   x = idx b (pageOf b t)
-
-  lo : A .role o ≡ desc
-  lo = live wide m i
 
   chd : ChildOf A o (pageOf b c) d
   chd = child-of wide m i c (ck .c-at) (ck .child)

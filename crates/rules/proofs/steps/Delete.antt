@@ -59,9 +59,6 @@ after-parts D (h ∷ hs) (g ∷ gs) e n = go (eqd (h .part) D) (λ k. after-part
     go (no y) ih = after-on D g gs (λ z. y (cons-inj e .0 ∙ z)) ∙ ih (sym (after-on D h hs y) ∙ n)
 
 -- is r the use of page q by D?
-abbrev pub OwnD : ℕ → Role → ℕ → Type 0
-OwnD D r q = Owner r q D
-
 pub ownd : (r : Role) (q D : ℕ) → Dec (Owner r q D)
 ownd header q D = no (λ z. z)
 ownd hand q D = no (λ z. z)

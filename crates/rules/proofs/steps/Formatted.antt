@@ -17,7 +17,7 @@ use Rattle.memory.proofs.Widths.{words-least}
 use Rattle.memory.proofs.Format.{format-word, length-tabulate}
 use Rattle.rules.proofs.model.Base.{eqd, pick-yes, pick-no}
 use Rattle.rules.proofs.model.Words.{W, word, addr, addr-zero, join, pte, Sized}
-use Rattle.rules.proofs.model.Abs.{Kind, pt, s1, s2, hand, blank, root, Abs, Seen, seek, WF, isHand, seenWord, lentWord, cell, roleWord, headList}
+use Rattle.rules.proofs.model.Abs.{Kind, pt, s1, s2, hand, blank, Abs, Seen, seek, WF, isHand, seenWord, lentWord, cell, roleWord, headList}
 use Rattle.rules.proofs.model.Facts.{differ, not-hand, seek-here}
 use Rattle.rules.proofs.model.Read.{cell-none, cell-some}
 use Rattle.rules.proofs.model.Format.{kindAt, kindNo, kind-lt, role0, maps0, flat0, flatHop, rootp0, upTo, start, mid, flat-is, View, v-head, v-desc, v-root, v-lst, v-tab, v-hand, view, start-wf}

@@ -17,7 +17,7 @@ use Rattle.rules.proofs.model.Alike.{cells-same}
 use Rattle.rules.proofs.model.Apart.{pt-s1, pt-s2, s1-s2, root-part, lst-part}
 use Rattle.rules.proofs.model.Facts.{differ}
 use Rattle.rules.proofs.model.Read.{kernel-lt, cell-none, unmapped}
-use Rattle.rules.proofs.steps.Prep.{PrepPre, newThree, prepA, PrepView, is-P, is-old, view, at-append, at-last, at-on, at-nil, threes-new, prep-wf}
+use Rattle.rules.proofs.steps.Prep.{PrepPre, newThree, prepA, PrepView, is-P, is-old, view, at-append, at-last, at-on, at-nil, threes-new}
 
 module _ (b : ℕ) where
   -- the list's words
@@ -48,9 +48,6 @@ module _ {b : ℕ} (wide : 6 ≤ b) where
 
     abbrev n : ℕ
     n = length (A .threes c)
-
-    wB : WF b N fl B
-    wB = prep-wf wide N fl A wf o c i P pre
 
     -- no cell changes
     blank-same : (q : ℕ) → (isHand (B .role q) ≡ isHand (A .role q)) × (ownWord (B .role q) ≡ ownWord (A .role q))

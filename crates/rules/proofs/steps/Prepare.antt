@@ -15,7 +15,7 @@ use Rattle.rules.specs.Refusals.{refusal}
 use Rattle.rules.specs.Effects.{prepareThree, effect}
 use Rattle.rules.proofs.model.Base.{upd-other}
 use Rattle.rules.proofs.model.Words.{addr, word, put, putL, link, link-nz, idx, pageOf}
-use Rattle.rules.proofs.model.Abs.{Kind, pt, s1, s2, hand, blank, desc, Three, Abs, headV, threeAt, WF, Encodes, cell, linkWord}
+use Rattle.rules.proofs.model.Abs.{Kind, pt, s1, s2, blank, desc, Three, Abs, headV, threeAt, WF, Encodes, cell, linkWord}
 use Rattle.rules.proofs.model.Facts.{differ}
 use Rattle.rules.proofs.model.Read.{rootPage, entry-is, root-page, table-word, unmapped}
 use Rattle.rules.proofs.model.Names.{mapping-is}

@@ -1,6 +1,5 @@
 -- A refused call, a call that leaves every word, and a later format keep the invariant.
 use mathlib.Core.Path.{_≡_, refl, sym, ap, _∙_, subst}
-use mathlib.Core.Logic.{_≢_}
 use mathlib.Core.List.{List}
 use Prim.Native.Nat.{ℕ, zero, suc, _/_, _≤_}
 use native.Mathlib.Nat.{mul-div-left}
@@ -26,9 +25,6 @@ module _ {b : ℕ} (wide : 6 ≤ b) (m : List ℕ) (i : Inv b m) where
       go : (r : ℕ) → refusal b m c ≡ r → Inv b (pass r (effect b m c) m)
       go zero e = f e
       go (suc n) e = i
-
-  pub inv-refused : (c : Call) → refusal b m c ≢ 0 → Inv b (after b m c)
-  inv-refused c n = inv-after c (λ e. absurd (n e))
 
   pub inv-same : (c : Call) → effect b m c ≡ m → Inv b (after b m c)
   inv-same c e = inv-after c (λ z. subst (Inv b) (sym e) i)

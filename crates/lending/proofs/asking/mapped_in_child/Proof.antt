@@ -2,7 +2,6 @@
 use mathlib.Core.Path.{refl}
 use borrow.Author.Needs.{needs}
 use Rattle.rules.specs.Call.{mappedInChild}
-use Rattle.rules.specs.Calls.{result}
 use Rattle.rules.specs.Effects.{effect}
 use Rattle.moves.proofs.Whole.{refused, done}
 use Rattle.lending.proofs.asking.mapped_in_child.Statement.{statement}

@@ -3,7 +3,6 @@ use Prim.Native.Nat.{ℕ}
 use native.Mathlib.Omega.{arith}
 use borrow.Author.Needs.{needs}
 use lib.ListN.{replicate}
-use Rattle.memory.specs.Partition.{list}
 use Rattle.making.proofs.Delete.{few-at, saved-part, effect-is}
 use Rattle.making.proofs.deleting.delete_effect.Statement.{statement}
 use Rattle.making.proofs.deleting.delete_effect.Tie as tie

@@ -1,6 +1,6 @@
 -- `script::digits::put_decimal` meets its contract. The digits of x / 10, then the last one. The measure is x. Assumes nothing.
 use mathlib.Core.Path.{ap}
-use Prim.Native.Nat.{ℕ}
+use Prim.Native.Nat.{ℕ, _<_}
 use native.Mathlib.Omega.{arith}
 use lib.ListN.{length}
 use borrow.Author.Needs.{needs}

@@ -2,7 +2,6 @@
 use mathlib.Core.Path.{sym, _∙_}
 use borrow.Author.Needs.{needs}
 use Rattle.rules.specs.Call.{collect}
-use Rattle.rules.specs.Calls.{result}
 use Rattle.moves.proofs.Whole.{refused, done}
 use Rattle.threes.proofs.StandLaws.{collect-stands}
 use Rattle.threes.proofs.collecting.collect.Statement.{statement}

@@ -2,7 +2,6 @@
 use mathlib.Core.Path.{refl}
 use borrow.Author.Needs.{needs}
 use Rattle.rules.specs.Call.{pageCount}
-use Rattle.rules.specs.Calls.{result}
 use Rattle.rules.specs.Effects.{effect}
 use Rattle.moves.proofs.Whole.{refused, done}
 use Rattle.threes.proofs.counting.page_count.Statement.{statement}
