@@ -14,10 +14,14 @@ blockAt n i = eqb (i % 8) 0 && leb (i + 8) n
 abbrev pub inBlock : ℕ → List ℕ → ℕ → ℕ
 inBlock x s i = count x (take 8 (drop i s))
 
--- a block of s in which every word is 0
-abbrev pub emptyBlock : List ℕ → ℕ → ℕ → Bool
-emptyBlock s n i = blockAt n i && eqb (inBlock 0 s i) 8
+-- a block of s in which x stands k times
+abbrev pub blockOf : List ℕ → ℕ → ℕ → ℕ → ℕ → Bool
+blockOf s n i x k = blockAt n i && eqb (inBlock x s i) k
 
--- a block of a shadow 1 table s in which no word is 1
+-- every word is 0
+abbrev pub emptyBlock : List ℕ → ℕ → ℕ → Bool
+emptyBlock s n i = blockOf s n i 0 8
+
+-- no word of a shadow 1 table is 1
 abbrev pub childlessBlock : List ℕ → ℕ → ℕ → Bool
-childlessBlock s n i = blockAt n i && eqb (inBlock 1 s i) 0
+childlessBlock s n i = blockOf s n i 1 0

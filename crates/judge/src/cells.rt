@@ -1,7 +1,7 @@
 // The three table words of a partition at one address: w of the page table, x of shadow 1, y of shadow 2.
 use crate::children::child_at;
 use crate::rows::address_of;
-use crate::rows::empty_block;
+use crate::rows::block_of;
 use crate::rows::next_word;
 use crate::rows::table_of;
 use forms::child_forms;
@@ -208,13 +208,13 @@ fn empty_cells(pt: &[u32], s1: &[u32], s2: &[u32], n: usize, i: usize) -> bool
     requires { ⌜ (n ≤ length (now pt)) × (n ≤ length (now s1)) × (n ≤ length (now s2)) × (i + 8 < 18446744073709551616) ⌝ }
     ensures { λ r. ⌜ r ≡ (emptyBlock (now (pt .entry)) n i && emptyBlock (now (s1 .entry)) n i && emptyBlock (now (s2 .entry)) n i) ⌝ }
 {
-    if !empty_block(pt, n, i) {
+    if !block_of(pt, n, i, 0, 8) {
         return false;
     }
-    if !empty_block(s1, n, i) {
+    if !block_of(s1, n, i, 0, 8) {
         return false;
     }
-    empty_block(s2, n, i)
+    block_of(s2, n, i, 0, 8)
 }
 
 // A row, from virtual page v on. Blocks without a word are passed over.

@@ -1,17 +1,15 @@
 // The children of a partition.
-use crate::rows::block_at;
+use crate::rows::block_of;
 use pages::PhysicalPage;
-use pages::count_of;
 use pages::lent;
 use pages::mapping;
 use pages::page_of;
 ghost use mathlib.Core.Path.{_≡_};
-ghost use Prim.Native.Nat.{_+_, _-_, _≤_, _<_};
+ghost use Prim.Native.Nat.{_-_, _≤_};
 ghost use lib.ListN.{length, getD};
 ghost use Rattle.memory.specs.Counts.{childAt, childOf};
 ghost use Rattle.judge.specs.Search.{seek};
 ghost use Rattle.judge.specs.Rows.{childWords};
-ghost use Rattle.judge.specs.Blocks.{childlessBlock};
 ghost use Rattle.pages.specs.Width.{Width};
 
 // A child of d stands at v: a mapping with shadow 1 word 1.
@@ -43,25 +41,14 @@ fn is_child(w: u32, x: u32) -> bool
     w != 0
 }
 
-// A block of a shadow 1 table without a child.
-fn childless(s1: &[u32], n: usize, i: usize) -> bool
-    requires { ⌜ (n ≤ length (now s1)) × (i + 8 < 18446744073709551616) ⌝ }
-    ensures { λ r. ⌜ r ≡ childlessBlock (now (s1 .entry)) n i ⌝ }
-{
-    if !block_at(n, i) {
-        return false;
-    }
-    count_of(&s1[i..i + 8], 1) == 0
-}
-
-// The next child of a row from place i on, below n, where pt is its page table and s1 its shadow 1 table.
+// The next child of a row from place i on, below n, where pt is its page table and s1 its shadow 1 table. Blocks of s1 without a 1 are passed over.
 pub fn next_child(pt: &[u32], s1: &[u32], n: usize, i: usize) -> usize
     requires { ⌜ (n ≤ length (now pt)) × (n ≤ length (now s1)) ⌝ }
     ensures { λ r. ⌜ r ≡ seek (λ j. childWords (getD (now (pt .entry)) j 0) (getD (now (s1 .entry)) j 0)) (n - i) i ⌝ }
 {
     let mut j = i;
     while j < n {
-        if childless(s1, n, j) {
+        if block_of(s1, n, j, 1, 0) {
             j += 8;
         } else {
             if is_child(pt[j], s1[j]) {

@@ -10,7 +10,7 @@ ghost use lib.ListN.{length};
 ghost use Rattle.memory.specs.Geometry.{address};
 ghost use Rattle.judge.specs.Search.{seek};
 ghost use Rattle.judge.specs.Rows.{virtualPages, table, used};
-ghost use Rattle.judge.specs.Blocks.{blockAt, emptyBlock};
+ghost use Rattle.judge.specs.Blocks.{blockAt, blockOf};
 ghost use Rattle.pages.specs.Width.{Width};
 
 // The table that the word w of a directory or a shadow names; an absent one has no words.
@@ -65,15 +65,15 @@ pub fn block_at(n: usize, i: usize) -> bool
     i + 8 <= n
 }
 
-// A block in which all words are 0.
-pub fn empty_block(s: &[u32], n: usize, i: usize) -> bool
+// A block in which x stands k times.
+pub fn block_of(s: &[u32], n: usize, i: usize, x: u32, k: u32) -> bool
     requires { ⌜ (n ≤ length (now s)) × (i + 8 < 18446744073709551616) ⌝ }
-    ensures { λ r. ⌜ r ≡ emptyBlock (now (s .entry)) n i ⌝ }
+    ensures { λ r. ⌜ r ≡ blockOf (now (s .entry)) n i x k ⌝ }
 {
     if !block_at(n, i) {
         return false;
     }
-    count_of(&s[i..i + 8], 0) == 8
+    count_of(&s[i..i + 8], x) == k
 }
 
 // The address of a virtual page.

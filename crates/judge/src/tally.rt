@@ -1,7 +1,7 @@
 // One sweep over the rows of a partition's tables, in which the pages in its hand are marked and all that is counted there is counted; and what its parent
 // lends to it.
 use crate::marks::mark_hand;
-use crate::rows::empty_block;
+use crate::rows::block_of;
 use crate::rows::next_word;
 use crate::rows::table_of;
 use pages::PhysicalPage;
@@ -91,7 +91,7 @@ pub fn tally_row(b: u32, m: &[u32], seen: &mut [u8], pt: &[u32], s1: &[u32]) -> 
     let mut j = 0;
     while j < pt.len() {
         let w = pt[j];
-        if empty_block(pt, pt.len(), j) {
+        if block_of(pt, pt.len(), j, 0, 8) {
             j += 8;
         } else if w == 0 {
             j += 1;

@@ -20,8 +20,8 @@ abbrev μ-loop : tie.MeasureT-loop
 loop-holds : tie.Need-loop-holds Inv-loop μ-loop
 loop-holds c = search needs
 
-childless-requires : tie.Need-childless-requires Inv-loop μ-loop
-childless-requires c κs = search needs
+block-of-requires : tie.Need-block-of-requires Inv-loop μ-loop
+block-of-requires c κs = search needs
 
 add-j : tie.Need-add-j Inv-loop μ-loop
 add-j c = search needs
@@ -34,7 +34,7 @@ loop-again c =
     let h = c .before .before .before .before .before .before .pre in
     let s = c .before .before .before .before .before .before .args in
     let p = c .before .before .before .loop in
-    p .inv ∙ childless-past (s .n) (p .j) (s .s1 .now) (omega (arith, h)) (s .pt .now) (c .before .childless .ensures) (c .if1 .taken)
+    p .inv ∙ childless-past (s .n) (p .j) (s .s1 .now) (omega (arith, h)) (s .pt .now) (c .before .block-of .ensures) (c .if1 .taken)
 
 mul-is-child : tie.Need-mul-is-child Inv-loop μ-loop
 mul-is-child c = search needs
@@ -82,7 +82,7 @@ next-child-spec =
     Inv-loop
     μ-loop
     loop-holds
-    childless-requires
+    block-of-requires
     add-j
     loop-less
     loop-again

@@ -26,8 +26,8 @@ mul-w c = search needs
 shared-slice-read-w : tie.Need-shared-slice-read-w Inv-loop μ-loop
 shared-slice-read-w c = search needs
 
-empty-block-requires : tie.Need-empty-block-requires Inv-loop μ-loop
-empty-block-requires c κs = search needs
+block-of-requires : tie.Need-block-of-requires Inv-loop μ-loop
+block-of-requires c κs = search needs
 
 add-j : tie.Need-add-j Inv-loop μ-loop
 add-j c = search needs
@@ -40,7 +40,7 @@ loop-again c =
     let h = c .before .before .before .before .before .before .before .before .before .pre in
     let s = c .before .before .before .before .before .before .before .before .before .args in
     let p = c .before .before .before .before .loop in
-    let e = sym (c .before .empty-block .ensures) ∙ c .if1 .taken in
+    let e = sym (c .before .block-of .ensures) ∙ c .if1 .taken in
     tally-past (s .b) (s .m .now) (s .pt .now) (s .s1 .now) (h .1) (p .inv) (p .j + 8) (omega arith)
     (empty-end (length (s .pt .now)) (p .j) (s .pt .now) (omega arith) e) (empty-word (length (s .pt .now)) (p .j) (s .pt .now) (omega arith) e)
 
@@ -157,7 +157,7 @@ tally-row-spec =
     loop-holds
     mul-w
     shared-slice-read-w
-    empty-block-requires
+    block-of-requires
     add-j
     loop-less
     loop-again

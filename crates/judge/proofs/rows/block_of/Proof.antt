@@ -1,4 +1,4 @@
--- `judge::rows::empty_block` meets its contract. Assumes nothing.
+-- `judge::rows::block_of` meets its contract. Assumes nothing.
 use mathlib.Core.Path.{_≡_, ap, _∙_}
 use Prim.Native.Nat.{ℕ, _+_, _-_}
 use native.Mathlib.Omega.{arith}
@@ -8,8 +8,8 @@ use Rattle.walk.specs.Lists.{count}
 use Rattle.forms.proofs.Laws.Tests.{yes, no}
 use Rattle.judge.proofs.Laws.Blocks.{block-told}
 use borrow.Author.Needs.{needs}
-use Rattle.judge.proofs.rows.empty_block.Statement.{statement}
-use Rattle.judge.proofs.rows.empty_block.Tie as tie
+use Rattle.judge.proofs.rows.block_of.Statement.{statement}
+use Rattle.judge.proofs.rows.block_of.Tie as tie
 
 block-at-requires : tie.Need-block-at-requires
 block-at-requires c κs = search needs
@@ -42,10 +42,10 @@ returns-2 c =
     let s = c .before .before .before .before .before .args in
     let e : s .i + 8 - s .i ≡ 8 = omega arith in
     rw (yes (c .before .before .before .block-at .ensures) (c .before .before .if1 .left))
-    (ap (λ (k : ℕ). eqb k 8) (c .count-of .ensures ∙ ap (λ (k : ℕ). count 0 (take k (drop (s .i) (s .s .now)))) e))
+    (ap (λ (k : ℕ). eqb k (s .k)) (c .count-of .ensures ∙ ap (λ (k : ℕ). count (s .x) (take k (drop (s .i) (s .s .now)))) e))
 
-pub empty-block-spec : {M : Type 1} → statement M
-empty-block-spec =
+pub block-of-spec : {M : Type 1} → statement M
+block-of-spec =
     tie.close
     (tie.spec
     block-at-requires
