@@ -1,14 +1,6 @@
 // The example texts beside it: each one's script is the one that is stored, and is replayed; and why those of `unread` can't be read.
-ghost use mathlib.Core.Path.{_≡_};
-ghost use lib.ListN.{length};
 ghost use Rattle.io.specs.Counts.{Counts};
 use libc::STDOUT_FILENO;
-
-fn transcript_buffer() -> [u8; 32768]
-    ensures { λ r. ⌜ 32768 ≡ length r ⌝ }
-{
-    [0; 32768]
-}
 
 fn print(bytes: &[u8]) {
     io::write_all(STDOUT_FILENO, bytes);
@@ -48,7 +40,7 @@ fn assemble_file(text: &[u8], script: &[u8]) {
 fn replay_file(script: &[u8]) {
     let mut bytes = io::large_buffer();
     let n = read_file(script, &mut bytes);
-    let mut out = transcript_buffer();
+    let mut out = transcripts::transcript_buffer();
     let r = transcripts::replay(&bytes[..n], &mut out);
     print(&out[..r]);
 }

@@ -11,12 +11,6 @@ fn script_buffer() -> [u8; 4097]
     [0; 4097]
 }
 
-fn transcript_buffer() -> [u8; 32768]
-    ensures { λ r. ⌜ 32768 ≡ length r ⌝ }
-{
-    [0; 32768]
-}
-
 // The file that the first argument names, or standard input where there is none. It is negative, and the reason is written, where the file cannot be opened.
 fn input() -> i32 {
     if os::arg_count() < 2 {
@@ -42,7 +36,7 @@ fn main() {
     }
     let mut bytes = script_buffer();
     let n = io::read_full(fd, &mut bytes);
-    let mut out = transcript_buffer();
+    let mut out = transcripts::transcript_buffer();
     let r = transcripts::replay(&bytes[..n], &mut out);
     if !io::write_all(STDOUT_FILENO, &out[..r]) {
         os::fail(b"write");

@@ -30,6 +30,10 @@ header bs e = pick (goodHeader 6 bs) refl
     pick true p = let h = header? 6 bs .0 p in record { long = h .0 .0 .0 .0 .0; least = h .0 .1; most = h .1 }
     pick false p = absurd (false≢true (sym (no-header 6 bs p) ∙ e))
 
+-- the check of a script, where the width is 6
+pub checked : (bs : List ℕ) {b : ℕ} {r t : Bool} → b ≡ 6 → r ≡ isScript (script b bs) → r ≡ t → isScript (script 6 bs) ≡ t
+checked bs e f g = ap (λ (b : ℕ). isScript (script b bs)) (sym e) ∙ sym f ∙ g
+
 -- format passes on N pages, and leaves the words of format
 pub formatted : (m : List ℕ) (n : ℕ) → length m ≡ n * 64 → 16 ≤ n → n ≤ 256 → after 6 m formatAll ≡ format 6 n
 unfolding refusals effect

@@ -45,9 +45,10 @@ put-again {m} {n} {i} {xs} p =
 
 module _ (bs : List ℕ) where
   -- the first line is put, and no record is done
-  pub start : {before m out : List ℕ} {pages n i at : ℕ} → isScript (script 6 bs) ≡ true → m ≡ format 6 (wordIn bs 0) → pages ≡ wordIn bs 0
-      → Put before out 0 at (firstLine 6 pages) → n ≡ wordIn bs 4 → i ≡ wordIn bs 8 → Walking 6 bs out n i 0 at m out
-  start {before} {m} {out} s f w p n i = rw (n, i, f) (begun 6 bs out s (put-again (put-same (ap (firstLine 6) w) p)))
+  pub start : {before m out : List ℕ} {b pages n i at : ℕ} → b ≡ 6 → isScript (script 6 bs) ≡ true → m ≡ format 6 (wordIn bs 0) → pages ≡ wordIn bs 0
+      → Put before out 0 at (firstLine b pages) → n ≡ wordIn bs 4 → i ≡ wordIn bs 8 → Walking 6 bs out n i 0 at m out
+  start {before} {m} {out} {b} {pages} e s f w p n i =
+      rw (n, i, f) (begun 6 bs out s (put-again (put-same (ap (λ (x : ℕ). firstLine x pages) e ∙ ap (firstLine 6) w) p)))
 
   -- the record at byte i is done, and its line put
   pub turn : {before m m′ out wider : List ℕ} {n i i′ k at next : ℕ} {a : Answer} → Walking 6 bs before n i k at m out → 0 < n

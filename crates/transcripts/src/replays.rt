@@ -1,6 +1,8 @@
 // Replay: the whole script is checked before anything is written.
 use crate::turns::transcribe;
 use kernel::format;
+use pages::page_words;
+use pages::width;
 use record::word_in;
 use script::put_bad_script;
 use script::well_formed;
@@ -18,7 +20,7 @@ fn memory_words(bytes: &[u8]) -> usize
     requires { ⌜ isScript (Replay.script 6 (now bytes)) ≡ true ⌝ }
     ensures { λ r. ⌜ (r ≡ wordIn (now (bytes .entry)) 0 * 64) × (r ≤ 16384) ⌝ }
 {
-    word_in(bytes, 0) as usize * 64
+    word_in(bytes, 0) as usize * page_words(width()) as usize
 }
 
 // Room for a memory of 256 pages, the most there are.
@@ -43,7 +45,7 @@ fn run(bytes: &[u8], m: &mut [u32], out: &mut [u8]) -> usize
 pub fn replay(bytes: &[u8], out: &mut [u8; 32768]) -> usize
     ensures { λ r. ⌜ Put (now (out .entry)) (now (out .exit)) 0 r (Replay.replay 6 (now (bytes .entry))) × (r ≤ length (now (out .exit))) ⌝ }
 {
-    if !well_formed(6, bytes) {
+    if !well_formed(width(), bytes) {
         return put_bad_script(out);
     }
     let mut words = most_words();

@@ -8,7 +8,7 @@ use Rattle.memory.specs.Format.{format}
 use Rattle.memory.specs.Geometry.{pageWords}
 use Rattle.rules.specs.Effects.{effect}
 use Rattle.formatting.proofs.FillLaws.{formatted, formatted-none, formatted-more, formatted-long, formatted-all}
-use Rattle.formatting.proofs.SizeLaws.{size-right, size-bounds, page-inside, page-long}
+use Rattle.formatting.proofs.SizeLaws.{size-right, size-bounds, near-threes, page-inside, page-long}
 use Rattle.formatting.proofs.filling.format_effect.Statement.{statement}
 use Rattle.formatting.proofs.filling.format_effect.Tie as tie
 
@@ -25,7 +25,7 @@ cast-n : tie.Need-cast-n Inv-loop μ-loop
 cast-n c = omega (arith, size-bounds (c .before .before .before .args .b) (c .before .before .before .args .m .now) (c .before .before .before .pre .0 .1) (c .before .before .before .pre .1))
 
 threes-for-requires : tie.Need-threes-for-requires Inv-loop μ-loop
-threes-for-requires c κs = (c .before .before .before .pre .0, omega (arith, size-bounds (c .before .before .before .args .b) (c .before .before .before .args .m .now) (c .before .before .before .pre .0 .1) (c .before .before .before .pre .1)))
+threes-for-requires c κs = search needs
 
 loop-holds : tie.Need-loop-holds Inv-loop μ-loop
 loop-holds c = (formatted-none (c .before .before .before .before .args .b) (c .before .pages-in .result) (c .before .before .before .before .args .m .now), search needs, search needs)
@@ -59,7 +59,9 @@ format-page-requires : tie.Need-format-page-requires Inv-loop μ-loop
 format-page-requires c κs =
     let s = c .before .before .before .before .before .before .before .before .before .args in
     let z = size-bounds (s .b) (s .m .now) (c .before .before .before .before .before .before .before .before .before .pre .0 .1) (c .before .before .before .before .before .before .before .before .before .pre .1) in
-    (c .before .before .before .before .before .before .before .before .before .pre .0, (c .before .before .before .before .before .threes-for .ensures, (omega (arith, z), omega (arith, z), simp length-take (omega (arith, page-long (s .b) (c .before .before .before .before .loop .p))))))
+    let n = c .before .before .before .before .before .before .pages-in .result in
+    let t = c .before .before .before .before .before .threes-for .ensures .0 in
+    (c .before .before .before .before .before .before .before .before .before .pre .0, ((t, omega (arith, t, near-threes (s .b) n (c .before .before .before .before .before .before .before .before .before .pre .0 .1) (omega (arith, z)))), (omega (arith, z), omega (arith, z), simp length-take (omega (arith, page-long (s .b) (c .before .before .before .before .loop .p))))))
 
 add-p : tie.Need-add-p Inv-loop μ-loop
 add-p c = omega (arith, size-bounds (c .before .before .before .before .before .before .before .before .before .before .before .before .args .b) (c .before .before .before .before .before .before .before .before .before .before .before .before .args .m .now) (c .before .before .before .before .before .before .before .before .before .before .before .before .pre .0 .1) (c .before .before .before .before .before .before .before .before .before .before .before .before .pre .1))

@@ -1,13 +1,16 @@
 -- `transcripts::replays::replay` meets its contract. Assumes nothing.
-use mathlib.Core.Path.{sym, _∙_}
 use native.Mathlib.Omega.{arith}
 use lib.ListN.{length-take}
 use borrow.Author.Tests.{not-true, not-false}
 use borrow.Author.Needs.{needs}
 use Rattle.script.proofs.Replays.{bad}
+use Rattle.transcripts.proofs.Starts.{checked}
 use Rattle.transcripts.proofs.Turn.{fits}
 use Rattle.transcripts.proofs.replays.replay.Statement.{statement}
 use Rattle.transcripts.proofs.replays.replay.Tie as tie
+
+width-requires : tie.Need-width-requires
+width-requires c κs = search needs
 
 well-formed-requires : tie.Need-well-formed-requires
 well-formed-requires c κs = search needs
@@ -17,15 +20,15 @@ put-bad-script-requires c κs = search needs
 
 returns : tie.Need-returns
 returns c =
-    let s = c .before .before .before .before .before .args in
-    let p = bad 6 (s .bytes .now) (s .out .now) (sym (c .before .before .before .well-formed .ensures) ∙ not-true _ (c .before .before .if1 .taken)) (c .put-bad-script .ensures) in
+    let s = c .before .before .before .before .before .before .args in
+    let p = bad 6 (s .bytes .now) (s .out .now) (checked (s .bytes .now) (c .before .before .before .before .width .ensures) (c .before .before .before .well-formed .ensures) (not-true _ (c .before .before .if1 .taken))) (c .put-bad-script .ensures) in
     (p, fits (s .bytes .now) p (search needs))
 
 most-words-requires : tie.Need-most-words-requires
 most-words-requires c κs = search needs
 
 memory-words-requires : tie.Need-memory-words-requires
-memory-words-requires c κs = sym (c .before .before .well-formed .ensures) ∙ not-false _ (c .before .if1 .left)
+memory-words-requires c κs = checked (c .before .before .before .before .before .args .bytes .now) (c .before .before .before .width .ensures) (c .before .before .well-formed .ensures) (not-false _ (c .before .if1 .left))
 
 array-borrow-prefix-words : tie.Need-array-borrow-prefix-words
 array-borrow-prefix-words c = search needs
@@ -34,11 +37,11 @@ slice-aggregate-run : tie.Need-slice-aggregate-run
 slice-aggregate-run c = simp length-take (omega arith)
 
 run-requires : tie.Need-run-requires
-run-requires c κs = (sym (c .before .before .before .before .before .well-formed .ensures) ∙ not-false _ (c .before .before .before .before .if1 .left), (simp length-take (omega arith), search needs))
+run-requires c κs = (checked (c .before .before .before .before .before .before .before .before .args .bytes .now) (c .before .before .before .before .before .before .width .ensures) (c .before .before .before .before .before .well-formed .ensures) (not-false _ (c .before .before .before .before .if1 .left)), (simp length-take (omega arith), search needs))
 
 returns-2 : tie.Need-returns-2
 returns-2 c =
-    let s = c .before .before .before .before .before .before .before .before .before .args in
+    let s = c .before .before .before .before .before .before .before .before .before .before .args in
     let p = c .before .run .ensures in
     (p, fits (s .bytes .now) p (search needs))
 
@@ -46,6 +49,7 @@ pub replay-spec : {M : Type 1} → statement M
 replay-spec =
     tie.close
     (tie.spec
+    width-requires
     well-formed-requires
     put-bad-script-requires
     returns

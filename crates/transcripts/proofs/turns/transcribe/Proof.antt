@@ -16,25 +16,28 @@ Inv-loop bytes m₀ out₀ at₀ n₀ i₀ k₀ m out at n i k = Walking 6 bytes
 abbrev μ-loop : tie.MeasureT-loop
 μ-loop bytes m₀ out₀ at₀ n₀ i₀ k₀ m out at n i k = n
 
+width-requires : tie.Need-width-requires Inv-loop μ-loop
+width-requires c κs = search needs
+
 word-in-requires : tie.Need-word-in-requires Inv-loop μ-loop
-word-in-requires c κs = omega (arith, header (c .before .before .before .args .bytes .now) (c .before .before .before .pre .0) .long)
+word-in-requires c κs = omega (arith, header (c .before .before .before .before .args .bytes .now) (c .before .before .before .before .pre .0) .long)
 
 put-first-line-requires : tie.Need-put-first-line-requires Inv-loop μ-loop
 put-first-line-requires c κs = search needs
 
 word-in-requires-2 : tie.Need-word-in-requires-2 Inv-loop μ-loop
-word-in-requires-2 c κs = omega (arith, header (c .before .before .before .before .before .before .before .before .args .bytes .now) (c .before .before .before .before .before .before .before .before .pre .0) .long)
+word-in-requires-2 c κs = omega (arith, header (c .before .before .before .before .before .before .before .before .before .args .bytes .now) (c .before .before .before .before .before .before .before .before .before .pre .0) .long)
 
 word-in-requires-3 : tie.Need-word-in-requires-3 Inv-loop μ-loop
-word-in-requires-3 c κs = omega (arith, header (c .before .before .before .before .before .before .before .before .before .args .bytes .now) (c .before .before .before .before .before .before .before .before .before .pre .0) .long)
+word-in-requires-3 c κs = omega (arith, header (c .before .before .before .before .before .before .before .before .before .before .args .bytes .now) (c .before .before .before .before .before .before .before .before .before .before .pre .0) .long)
 
 cast-i : tie.Need-cast-i Inv-loop μ-loop
 cast-i c = search needs
 
 loop-holds : tie.Need-loop-holds Inv-loop μ-loop
 loop-holds c =
-    let s = c .before .before .before .before .before .before .before .before .before .before in (
-      start (s .args .bytes .now) {m = s .args .m .now} (s .pre .0) (s .pre .1 .0) (c .before .before .before .before .before .before .word-in .ensures) (c .before .before .before .before .put-first-line .ensures .0) (c .before .word-in2 .ensures) (c .word-in3 .ensures),
+    let s = c .before .before .before .before .before .before .before .before .before .before .before in (
+      start (s .args .bytes .now) {m = s .args .m .now} (c .before .before .before .before .before .before .before .width .ensures) (s .pre .0) (s .pre .1 .0) (c .before .before .before .before .before .before .word-in .ensures) (c .before .before .before .before .put-first-line .ensures .0) (c .before .word-in2 .ensures) (c .word-in3 .ensures),
       search needs,
       search needs,
       search needs,
@@ -60,7 +63,7 @@ loop-less c = search needs
 
 loop-again : tie.Need-loop-again Inv-loop μ-loop
 loop-again c = (
-  turn (c .before .before .before .before .before .before .before .before .before .before .before .before .before .before .before .before .before .before .before .before .before .args .bytes .now) (c .before .before .before .before .before .before .before .before .before .before .loop .inv .0) (c .before .before .before .before .before .before .before .before .before .loop-test .taken) (c .before .before .before .before .before .before .before .step .ensures .0) (c .before .before .before .before .before .before .before .step .ensures .1) (c .before .before .before .put-answer .ensures .0) (c .next-record .ensures .0),
+  turn (c .before .before .before .before .before .before .before .before .before .before .before .before .before .before .before .before .before .before .before .before .before .before .args .bytes .now) (c .before .before .before .before .before .before .before .before .before .before .loop .inv .0) (c .before .before .before .before .before .before .before .before .before .loop-test .taken) (c .before .before .before .before .before .before .before .step .ensures .0) (c .before .before .before .before .before .before .before .step .ensures .1) (c .before .before .before .put-answer .ensures .0) (c .next-record .ensures .0),
   omega (arith, c .before .before .before .put-answer .ensures .0 .next),
   search needs,
   search needs,
@@ -81,6 +84,7 @@ transcribe-spec =
     (tie.spec
     Inv-loop
     μ-loop
+    width-requires
     word-in-requires
     put-first-line-requires
     word-in-requires-2
