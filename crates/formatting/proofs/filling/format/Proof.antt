@@ -22,7 +22,9 @@ returns c =
     (sym (answer-no (s .b) (s .m .now) formatAll 1 (at g)), sym (after-no (s .b) (s .m .now) formatAll 1 (at g)))
 
 format-effect-requires : tie.Need-format-effect-requires
-format-effect-requires c κs = (c .before .before .before .before .before .pre, sym (c .before .before .wrong-size .ensures) ∙ c .before .if1 .left)
+format-effect-requires c κs =
+    let h = c .before .before .before .before .before .pre in
+    (h, sym (c .before .before .wrong-size .ensures) ∙ c .before .if1 .left)
 
 same-length-2 : tie.Need-same-length-2
 same-length-2 c = search needs
@@ -30,8 +32,9 @@ same-length-2 c = search needs
 returns-2 : tie.Need-returns-2
 unfolding refusals result
 returns-2 c =
+    let wrong-size = c .before .before .before .before .before .wrong-size in
     let s = c .before .before .before .before .before .before .before .before .args in
-    let g = sym (c .before .before .before .before .before .wrong-size .ensures) ∙ c .before .before .before .before .if1 .left in
+    let g = sym (wrong-size .ensures) ∙ c .before .before .before .before .if1 .left in
     (sym (answer-ok (s .b) (s .m .now) formatAll (on g none)), c .before .before .format-effect .ensures ∙ sym (after-ok (s .b) (s .m .now) formatAll (on g none)))
 
 pub format-spec : {M : Type 1} → statement M

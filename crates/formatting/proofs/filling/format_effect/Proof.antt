@@ -22,19 +22,27 @@ pages-in-requires : tie.Need-pages-in-requires Inv-loop μ-loop
 pages-in-requires c κs = search needs
 
 cast-n : tie.Need-cast-n Inv-loop μ-loop
-cast-n c = omega (arith, size-bounds (c .before .before .before .args .b) (c .before .before .before .args .m .now) (c .before .before .before .pre .0 .1) (c .before .before .before .pre .1))
+cast-n c =
+    let s = c .before .before .before .args in
+    let h = c .before .before .before .pre in
+    omega (arith, size-bounds (s .b) (s .m .now) (h .0 .1) (h .1))
 
 threes-for-requires : tie.Need-threes-for-requires Inv-loop μ-loop
 threes-for-requires c κs = search needs
 
 loop-holds : tie.Need-loop-holds Inv-loop μ-loop
-loop-holds c = (formatted-none (c .before .before .before .before .args .b) (c .before .pages-in .result) (c .before .before .before .before .args .m .now), search needs, search needs)
+loop-holds c =
+    let s = c .before .before .before .before .args in
+    (formatted-none (s .b) (c .before .pages-in .result) (s .m .now), search needs, search needs)
 
 index-requires : tie.Need-index-requires Inv-loop μ-loop
 index-requires c κs = search needs
 
 add-t13 : tie.Need-add-t13 Inv-loop μ-loop
-add-t13 c = omega (arith, size-bounds (c .before .before .before .before .before .before .before .args .b) (c .before .before .before .before .before .before .before .args .m .now) (c .before .before .before .before .before .before .before .pre .0 .1) (c .before .before .before .before .before .before .before .pre .1))
+add-t13 c =
+    let s = c .before .before .before .before .before .before .before .args in
+    let h = c .before .before .before .before .before .before .before .pre in
+    omega (arith, size-bounds (s .b) (s .m .now) (h .0 .1) (h .1))
 
 index-requires-2 : tie.Need-index-requires-2 Inv-loop μ-loop
 index-requires-2 c κs = search needs
@@ -50,33 +58,47 @@ part-format-page-start c = search needs
 
 part-format-page-end : tie.Need-part-format-page-end Inv-loop μ-loop
 part-format-page-end c =
+    let h = c .before .before .before .before .before .before .before .before .pre in
     let s = c .before .before .before .before .before .before .before .before .args in
     let n = c .before .before .before .before .before .pages-in in
-    let l : length (s .m .now) ≡ n .result * pageWords (s .b) = size-right (s .b) (s .m .now) (c .before .before .before .before .before .before .before .before .pre .1) .0 ∙ ap (λ (x : ℕ). x * pageWords (s .b)) (sym (n .ensures)) in
+    let l : length (s .m .now) ≡ n .result * pageWords (s .b) = size-right (s .b) (s .m .now) (h .1) .0 ∙ ap (λ (x : ℕ). x * pageWords (s .b)) (sym (n .ensures)) in
     omega (arith, l, page-inside (s .b) (c .before .before .before .loop .p) (n .result) (c .before .before .loop-test .taken))
 
 format-page-requires : tie.Need-format-page-requires Inv-loop μ-loop
 format-page-requires c κs =
+    let h = c .before .before .before .before .before .before .before .before .before .pre in
+    let pages-in = c .before .before .before .before .before .before .pages-in in
+    let threes-for = c .before .before .before .before .before .threes-for in
     let s = c .before .before .before .before .before .before .before .before .before .args in
-    let z = size-bounds (s .b) (s .m .now) (c .before .before .before .before .before .before .before .before .before .pre .0 .1) (c .before .before .before .before .before .before .before .before .before .pre .1) in
-    let n = c .before .before .before .before .before .before .pages-in .result in
-    let t = c .before .before .before .before .before .threes-for .ensures .0 in
-    (c .before .before .before .before .before .before .before .before .before .pre .0, ((t, omega (arith, t, near-threes (s .b) n (c .before .before .before .before .before .before .before .before .before .pre .0 .1) (omega (arith, z)))), (omega (arith, z), omega (arith, z), simp length-take (omega (arith, page-long (s .b) (c .before .before .before .before .loop .p))))))
+    let z = size-bounds (s .b) (s .m .now) (h .0 .1) (h .1) in
+    let n = pages-in .result in
+    let t = threes-for .ensures .0 in (
+      h .0,
+      ((t, omega (arith, t, near-threes (s .b) n (h .0 .1) (omega (arith, z)))), (omega (arith, z), omega (arith, z), simp length-take (omega (arith, page-long (s .b) (c .before .before .before .before .loop .p))))),
+    )
 
 add-p : tie.Need-add-p Inv-loop μ-loop
-add-p c = omega (arith, size-bounds (c .before .before .before .before .before .before .before .before .before .before .before .before .args .b) (c .before .before .before .before .before .before .before .before .before .before .before .before .args .m .now) (c .before .before .before .before .before .before .before .before .before .before .before .before .pre .0 .1) (c .before .before .before .before .before .before .before .before .before .before .before .before .pre .1))
+add-p c =
+    let s = c .before .before .before .before .before .before .before .before .before .before .before .before .args in
+    let h = c .before .before .before .before .before .before .before .before .before .before .before .before .pre in
+    omega (arith, size-bounds (s .b) (s .m .now) (h .0 .1) (h .1))
 
 loop-less : tie.Need-loop-less Inv-loop μ-loop
 loop-less c = search needs
 
 loop-again : tie.Need-loop-again Inv-loop μ-loop
 loop-again c =
+    let h = c .before .before .before .before .before .before .before .before .before .before .before .before .pre in
+    let test = c .before .before .before .before .before .before .loop-test in
+    let index = c .before .before .before .before .before .index in
+    let index2 = c .before .before .before .before .index2 in
+    let format-page = c .before .before .format-page in
     let s = c .before .before .before .before .before .before .before .before .before .before .before .before .args in
     let n = c .before .before .before .before .before .before .before .before .before .pages-in in
     let p = c .before .before .before .before .before .before .before .loop in
-    let l : length (s .m .now) ≡ n .result * pageWords (s .b) = size-right (s .b) (s .m .now) (c .before .before .before .before .before .before .before .before .before .before .before .before .pre .1) .0 ∙ ap (λ (x : ℕ). x * pageWords (s .b)) (sym (n .ensures)) in
-    let i = page-inside (s .b) (p .p) (n .result) (c .before .before .before .before .before .before .loop-test .taken) in
-    let q = formatted-more (s .b) (n .result) (s .m .now) (p .m) (c .before .before .format-page .last .1 .0) (p .p) (c .before .before .before .before .before .index .result) (c .before .before .before .before .index2 .result) (c .before .before .before .before .before .index .ensures .0) (c .before .before .before .before .index2 .ensures .0) (omega arith) (p .inv .0) (c .before .before .format-page .ensures) in
+    let l : length (s .m .now) ≡ n .result * pageWords (s .b) = size-right (s .b) (s .m .now) (h .1) .0 ∙ ap (λ (x : ℕ). x * pageWords (s .b)) (sym (n .ensures)) in
+    let i = page-inside (s .b) (p .p) (n .result) (test .taken) in
+    let q = formatted-more (s .b) (n .result) (s .m .now) (p .m) (format-page .last .1 .0) (p .p) (index .result) (index2 .result) (index .ensures .0) (index2 .ensures .0) (omega arith) (p .inv .0) (format-page .ensures) in
     (q, omega arith, ap length q ∙ formatted-long (s .b) (n .result) (s .m .now) (p .p + 1) (omega arith))
 
 same-length : tie.Need-same-length Inv-loop μ-loop
@@ -85,10 +107,11 @@ same-length c = search needs
 returns : tie.Need-returns Inv-loop μ-loop
 unfolding effect
 returns c =
+    let h = c .before .before .before .before .before .before .pre in
     let s = c .before .before .before .before .before .before .args in
     let n = c .before .before .before .pages-in in
     let p = c .before .loop in
-    let l : length (s .m .now) ≡ n .result * pageWords (s .b) = size-right (s .b) (s .m .now) (c .before .before .before .before .before .before .pre .1) .0 ∙ ap (λ (x : ℕ). x * pageWords (s .b)) (sym (n .ensures)) in
+    let l : length (s .m .now) ≡ n .result * pageWords (s .b) = size-right (s .b) (s .m .now) (h .1) .0 ∙ ap (λ (x : ℕ). x * pageWords (s .b)) (sym (n .ensures)) in
     let e : p .p ≡ n .result = omega arith in
     p .inv .0 ∙ ap (formatted (s .b) (n .result) (s .m .now)) e ∙ formatted-all (s .b) (n .result) (s .m .now) l ∙ ap (format (s .b)) (n .ensures)
 

@@ -43,8 +43,11 @@ loop-less c = search needs
 loop-again : tie.Need-loop-again Inv-loop μ-loop
 loop-again c =
     let p = c .before .before .loop in
-    let s = c .before .before .before .before .args in
-    (fill-more (formatWord (s .b) (s .n) (s .p .0)) (s .s .now) (p .s) (p .i) (c .format-word .result) (omega arith) (p .inv .0) (c .format-word .ensures), omega arith, length-set (p .s) (p .i) (c .format-word .result) ∙ p .inv .2)
+    let s = c .before .before .before .before .args in (
+      fill-more (formatWord (s .b) (s .n) (s .p .0)) (s .s .now) (p .s) (p .i) (c .format-word .result) (omega arith) (p .inv .0) (c .format-word .ensures),
+      omega arith,
+      length-set (p .s) (p .i) (c .format-word .result) ∙ p .inv .2,
+    )
 
 same-length : tie.Need-same-length Inv-loop μ-loop
 same-length c = search needs
@@ -55,7 +58,8 @@ returns c =
     let s = c .before .before .before .args in
     let f = formatWord (s .b) (s .n) (s .p .0) in
     let e : p .i ≡ length (s .s .now) = omega arith in
-    p .inv .0 ∙ ap (λ (k : ℕ). tabulate 0 k f ++ drop k (s .s .now)) e ∙ ap (λ (l : List ℕ). tabulate 0 (length (s .s .now)) f ++ l) (drop-length (s .s .now)) ∙ append-nil (tabulate 0 (length (s .s .now)) f)
+    p .inv .0 ∙ ap (λ (k : ℕ). tabulate 0 k f ++ drop k (s .s .now)) e ∙ ap (λ (l : List ℕ). tabulate 0 (length (s .s .now)) f ++ l) (drop-length (s .s .now))
+    ∙ append-nil (tabulate 0 (length (s .s .now)) f)
 
 pub format-page-spec : {M : Type 1} → statement M
 format-page-spec =

@@ -28,9 +28,15 @@ read-requires c κs = search needs
 
 returns : tie.Need-returns
 returns c =
+    let s = c .before .before .before .before .before .before .before .args in
+    let page-address = c .before .before .before .before .before .before .page-address in
+    let page-address2 = c .before .before .before .before .before .page-address2 in
+    let page-address3 = c .before .before .before .before .page-address3 in
+    let page-address4 = c .before .before .before .page-address4 in
+    let page-address5 = c .before .before .page-address5 in
     c .read .ensures
-    ∙ descriptor-is (c .before .before .before .before .before .before .before .args .b) (c .before .before .before .before .before .before .before .args .i) (c .before .before .before .before .before .before .page-address .result) (c .before .before .before .before .before .page-address2 .result) (c .before .before .before .before .page-address3 .result) (c .before .before .before .page-address4 .result) (c .before .before .page-address5 .result)
-    (c .before .before .before .before .before .before .page-address .ensures .0) (c .before .before .before .before .before .page-address2 .ensures .0) (c .before .before .before .before .page-address3 .ensures .0) (c .before .before .before .page-address4 .ensures .0) (c .before .before .page-address5 .ensures .0)
+    ∙ descriptor-is (s .b) (s .i) (page-address .result) (page-address2 .result) (page-address3 .result) (page-address4 .result) (page-address5 .result)
+    (page-address .ensures .0) (page-address2 .ensures .0) (page-address3 .ensures .0) (page-address4 .ensures .0) (page-address5 .ensures .0)
 
 pub descriptor-word-spec : {M : Type 1} → statement M
 descriptor-word-spec =

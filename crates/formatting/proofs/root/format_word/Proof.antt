@@ -34,7 +34,9 @@ list-word-requires : tie.Need-list-word-requires
 list-word-requires c κs = search needs
 
 returns-4 : tie.Need-returns-4
-returns-4 c = let s = c .before .before .before .before .before .args in c .list-word .ensures ∙ word-list (s .b) (s .n) (s .t) (c .before .before .before .before .before .pre .1 .0 .0) (s .page .0) (s .i) (c .before .if4 .taken)
+returns-4 c =
+    let h = c .before .before .before .before .before .pre in
+    let s = c .before .before .before .before .before .args in c .list-word .ensures ∙ word-list (s .b) (s .n) (s .t) (h .1 .0 .0) (s .page .0) (s .i) (c .before .if4 .taken)
 
 mul-if5 : tie.Need-mul-if5
 mul-if5 c = search needs
@@ -46,7 +48,9 @@ returns-5 : tie.Need-returns-5
 returns-5 c = let s = c .before .before .before .before .before .args in word-flat (s .b) (s .n) (s .t) (c .before .before .before .before .before .pre .1 .0 .0) (s .page .0) (s .i) (omega arith) (c .if5 .taken)
 
 returns-6 : tie.Need-returns-6
-returns-6 c = let s = c .before .before .before .before .before .before .args in word-shadow (s .b) (s .n) (s .t) (c .before .before .before .before .before .before .pre .1 .0 .0) (s .page .0) (s .i) (omega arith) (c .before .if5 .left) (c .if6 .taken)
+returns-6 c =
+    let h = c .before .before .before .before .before .before .pre in
+    let s = c .before .before .before .before .before .before .args in word-shadow (s .b) (s .n) (s .t) (h .1 .0 .0) (s .page .0) (s .i) (omega arith) (c .before .if5 .left) (c .if6 .taken)
 
 sub-table-word : tie.Need-sub-table-word
 sub-table-word c = search needs
@@ -61,14 +65,18 @@ add-table-word : tie.Need-add-table-word
 add-table-word c = omega (arith, near-product ((c .before .before .before .before .before .before .before .args .page .0 - 6) / 3) (c .page-words .result) (omega arith) (c .page-words .ensures .1))
 
 table-word-requires : tie.Need-table-word-requires
-table-word-requires c κs = (c .before .before .before .before .before .before .before .pre .0, (c .before .before .before .before .before .before .before .pre .1 .0, omega (arith, near-product ((c .before .before .before .before .before .before .before .args .page .0 - 6) / 3) (c .page-words .result) (omega arith) (c .page-words .ensures .1))))
+table-word-requires c κs =
+    let h = c .before .before .before .before .before .before .before .pre in
+    let s = c .before .before .before .before .before .before .before .args in
+    (h .0, (h .1 .0, omega (arith, near-product ((s .page .0 - 6) / 3) (c .page-words .result) (omega arith) (c .page-words .ensures .1))))
 
 returns-7 : tie.Need-returns-7
 returns-7 c =
+    let h = c .before .before .before .before .before .before .before .before .pre in
     let s = c .before .before .before .before .before .before .before .before .args in
     c .table-word .ensures
     ∙ ap (λ (w : ℕ). rootTableWord (s .b) (s .n) ((s .page .0 - 6) / 3 * w + s .i)) (c .before .page-words .ensures .0)
-    ∙ word-table (s .b) (s .n) (s .t) (c .before .before .before .before .before .before .before .before .pre .1 .0 .0) (s .page .0) (s .i) (omega arith) (c .before .before .before .if5 .left) (c .before .before .if6 .left)
+    ∙ word-table (s .b) (s .n) (s .t) (h .1 .0 .0) (s .page .0) (s .i) (omega arith) (c .before .before .before .if5 .left) (c .before .before .if6 .left)
 
 pub format-word-spec : {M : Type 1} → statement M
 format-word-spec =

@@ -25,8 +25,11 @@ read-requires c κs = search needs
 
 returns : tie.Need-returns
 returns c =
+    let page-address = c .before .before .before .page-address in
+    let page-address2 = c .before .before .page-address2 in
     let s = c .before .before .before .before .args in
-    c .read .ensures ∙ header-is (s .b) (s .n) (s .t) (c .before .before .before .before .pre .1 .0) (s .i) (c .before .before .before .page-address .result) (c .before .before .page-address2 .result) (c .before .before .before .page-address .ensures .0) (c .before .before .page-address2 .ensures .0)
+    c .read .ensures ∙ header-is (s .b) (s .n) (s .t) (c .before .before .before .before .pre .1 .0) (s .i) (page-address .result) (page-address2 .result)
+    (page-address .ensures .0) (page-address2 .ensures .0)
 
 pub header-word-spec : {M : Type 1} → statement M
 header-word-spec =

@@ -39,9 +39,11 @@ mul-result c = search needs
 
 returns-3 : tie.Need-returns-3
 returns-3 c =
+    let page-words = c .before .before .before .page-words in
     let s = c .before .before .before .before .before .args in
-    let e = ap (λ (w : ℕ). length (s .m .now) % w) (c .before .before .before .page-words .ensures .0) in
-    ap₂ (λ (w n : ℕ). ltb (4 * w) n) (c .before .before .before .page-words .ensures .0) (c .before .before .pages-in .ensures) ∙ sym (size-most (s .b) (s .m .now) (sym e ∙ c .before .if1 .left) (omega arith))
+    let e = ap (λ (w : ℕ). length (s .m .now) % w) (page-words .ensures .0) in
+    ap₂ (λ (w n : ℕ). ltb (4 * w) n) (page-words .ensures .0) (c .before .before .pages-in .ensures) ∙ sym
+    (size-most (s .b) (s .m .now) (sym e ∙ c .before .if1 .left) (omega arith))
 
 pub wrong-size-spec : {M : Type 1} → statement M
 wrong-size-spec =

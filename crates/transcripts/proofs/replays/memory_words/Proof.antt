@@ -30,10 +30,11 @@ mul-result c =
 
 returns : tie.Need-returns
 returns c =
+    let word-in = c .before .before .word-in in
     let s = c .before .before .before .before in
     let e : c .page-words .result ≡ 64 = c .page-words .ensures .0 ∙ ap pageWords (c .before .width .ensures) in
-    let p = ap (λ (x : ℕ). c .before .before .word-in .result * x) e in
-    let w = c .before .before .word-in .ensures in
+    let p = ap (λ (x : ℕ). word-in .result * x) e in
+    let w = word-in .ensures in
     (omega (arith, p, w), omega (arith, p, w, header (s .args .bytes .now) (s .pre) .most))
 
 pub memory-words-spec : {M : Type 1} → statement M

@@ -28,7 +28,9 @@ most-words-requires : tie.Need-most-words-requires
 most-words-requires c κs = search needs
 
 memory-words-requires : tie.Need-memory-words-requires
-memory-words-requires c κs = checked (c .before .before .before .before .before .args .bytes .now) (c .before .before .before .width .ensures) (c .before .before .well-formed .ensures) (not-false _ (c .before .if1 .left))
+memory-words-requires c κs =
+    let s = c .before .before .before .before .before .args in
+    checked (s .bytes .now) (c .before .before .before .width .ensures) (c .before .before .well-formed .ensures) (not-false _ (c .before .if1 .left))
 
 array-borrow-prefix-words : tie.Need-array-borrow-prefix-words
 array-borrow-prefix-words c = search needs
@@ -37,7 +39,13 @@ slice-aggregate-run : tie.Need-slice-aggregate-run
 slice-aggregate-run c = simp length-take (omega arith)
 
 run-requires : tie.Need-run-requires
-run-requires c κs = (checked (c .before .before .before .before .before .before .before .before .args .bytes .now) (c .before .before .before .before .before .before .width .ensures) (c .before .before .before .before .before .well-formed .ensures) (not-false _ (c .before .before .before .before .if1 .left)), (simp length-take (omega arith), search needs))
+run-requires c κs =
+    let s = c .before .before .before .before .before .before .before .before .args in
+    let width = c .before .before .before .before .before .before .width in
+    let well-formed = c .before .before .before .before .before .well-formed in (
+      checked (s .bytes .now) (width .ensures) (well-formed .ensures) (not-false _ (c .before .before .before .before .if1 .left)),
+      (simp length-take (omega arith), search needs),
+    )
 
 returns-2 : tie.Need-returns-2
 returns-2 c =

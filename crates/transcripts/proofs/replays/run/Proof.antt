@@ -12,8 +12,10 @@ format-requires c κs = search needs
 transcribe-requires : tie.Need-transcribe-requires
 transcribe-requires c κs =
     let s = c .before .before .before .before .before .before .before .before .before in
-    let h = header (s .args .bytes .now) (s .pre .0) in
-    (s .pre .0, (c .before .before .before .before .format .ensures .1 ∙ formatted (s .args .m .now) (wordIn (s .args .bytes .now) 0) (s .pre .1 .0) (h .least) (h .most), search needs))
+    let h = header (s .args .bytes .now) (s .pre .0) in (
+      s .pre .0,
+      (c .before .before .before .before .format .ensures .1 ∙ formatted (s .args .m .now) (wordIn (s .args .bytes .now) 0) (s .pre .1 .0) (h .least) (h .most), search needs),
+    )
 
 same-length : tie.Need-same-length
 same-length c = search needs

@@ -14,7 +14,9 @@ word-in-requires : tie.Need-word-in-requires
 word-in-requires c κs = omega (arith, whole? (c .before .args .bytes .now) (c .before .args .i) .0 (c .before .pre) .1)
 
 argument-count-requires : tie.Need-argument-count-requires
-argument-count-requires c κs = rw (c .word-in .ensures) (whole? (c .before .before .args .bytes .now) (c .before .before .args .i) .0 (c .before .before .pre) .0)
+argument-count-requires c κs =
+    let s = c .before .before .args in
+    rw (c .word-in .ensures) (whole? (s .bytes .now) (s .i) .0 (c .before .before .pre) .0)
 
 argument-requires : tie.Need-argument-requires
 argument-requires c κs =

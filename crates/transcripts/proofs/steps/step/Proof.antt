@@ -9,7 +9,9 @@ use Rattle.transcripts.proofs.steps.step.Statement.{statement}
 use Rattle.transcripts.proofs.steps.step.Tie as tie
 
 word-in-requires : tie.Need-word-in-requires
-word-in-requires c κs = omega (arith, whole? (c .before .before .args .bytes .now) (c .before .before .args .i) .0 (c .before .before .pre) .1)
+word-in-requires c κs =
+    let s = c .before .before .args in
+    omega (arith, whole? (s .bytes .now) (s .i) .0 (c .before .before .pre) .1)
 
 arguments-requires : tie.Need-arguments-requires
 arguments-requires c κs = search needs
@@ -22,9 +24,11 @@ same-length c = search needs
 
 returns : tie.Need-returns
 returns c =
+    let h = c .before .before .before .before .before .before .before .before .pre in
+    let word-in = c .before .before .before .before .before .word-in in
     let s = c .before .before .before .before .before .before .before .before .args in
     let r = c .before .before .by-number .ensures in
-    let e = called (s .bytes .now) (s .i) (c .before .before .before .before .before .before .before .before .pre) (c .before .before .before .before .before .word-in .ensures) (c .before .before .before .before .arguments .ensures) in
+    let e = called (s .bytes .now) (s .i) (h) (word-in .ensures) (c .before .before .before .before .arguments .ensures) in
     (r .0 ∙ ap (λ x. answer 6 (s .m .now) x) e, r .1 ∙ ap (λ x. after 6 (s .m .now) x) e)
 
 pub step-spec : {M : Type 1} → statement M

@@ -36,8 +36,11 @@ cast-i c = search needs
 
 loop-holds : tie.Need-loop-holds Inv-loop μ-loop
 loop-holds c =
+    let width = c .before .before .before .before .before .before .before .width in
+    let word-in = c .before .before .before .before .before .before .word-in in
     let s = c .before .before .before .before .before .before .before .before .before .before .before in (
-      start (s .args .bytes .now) {m = s .args .m .now} (c .before .before .before .before .before .before .before .width .ensures) (s .pre .0) (s .pre .1 .0) (c .before .before .before .before .before .before .word-in .ensures) (c .before .before .before .before .put-first-line .ensures .0) (c .before .word-in2 .ensures) (c .word-in3 .ensures),
+      start (s .args .bytes .now) {m = s .args .m .now} (width .ensures) (s .pre .0) (s .pre .1 .0) (word-in .ensures)
+          (c .before .before .before .before .put-first-line .ensures .0) (c .before .word-in2 .ensures) (c .word-in3 .ensures),
       search needs,
       search needs,
       search needs,
@@ -53,7 +56,8 @@ put-answer-requires : tie.Need-put-answer-requires Inv-loop μ-loop
 put-answer-requires c κs = omega (arith, room-here 6 _ _ (c .before .before .before .before .before .before .loop .inv .0) (c .before .before .before .before .before .loop-test .taken))
 
 next-record-requires : tie.Need-next-record-requires Inv-loop μ-loop
-next-record-requires c κs = record-here 6 _ _ (c .before .before .before .before .before .before .before .before .before .loop .inv .0) (c .before .before .before .before .before .before .before .before .loop-test .taken)
+next-record-requires c κs = record-here 6 _ _ (c .before .before .before .before .before .before .before .before .before .loop .inv .0)
+    (c .before .before .before .before .before .before .before .before .loop-test .taken)
 
 sub-n : tie.Need-sub-n Inv-loop μ-loop
 sub-n c = search needs
@@ -62,12 +66,17 @@ loop-less : tie.Need-loop-less Inv-loop μ-loop
 loop-less c = search needs
 
 loop-again : tie.Need-loop-again Inv-loop μ-loop
-loop-again c = (
-  turn (c .before .before .before .before .before .before .before .before .before .before .before .before .before .before .before .before .before .before .before .before .before .before .args .bytes .now) (c .before .before .before .before .before .before .before .before .before .before .loop .inv .0) (c .before .before .before .before .before .before .before .before .before .loop-test .taken) (c .before .before .before .before .before .before .before .step .ensures .0) (c .before .before .before .before .before .before .before .step .ensures .1) (c .before .before .before .put-answer .ensures .0) (c .next-record .ensures .0),
-  omega (arith, c .before .before .before .put-answer .ensures .0 .next),
-  search needs,
-  search needs,
-)
+loop-again c =
+    let s = c .before .before .before .before .before .before .before .before .before .before .before .before .before .before .before .before .before .before .before .before .before .before .args in
+    let p = c .before .before .before .before .before .before .before .before .before .before .loop in
+    let test = c .before .before .before .before .before .before .before .before .before .loop-test in
+    let step = c .before .before .before .before .before .before .before .step in
+    let put-answer = c .before .before .before .put-answer in (
+      turn (s .bytes .now) (p .inv .0) (test .taken) (step .ensures .0) (step .ensures .1) (put-answer .ensures .0) (c .next-record .ensures .0),
+      omega (arith, put-answer .ensures .0 .next),
+      search needs,
+      search needs,
+    )
 
 same-length : tie.Need-same-length Inv-loop μ-loop
 same-length c = search needs
@@ -76,7 +85,9 @@ same-length-2 : tie.Need-same-length-2 Inv-loop μ-loop
 same-length-2 c = search needs
 
 returns : tie.Need-returns Inv-loop μ-loop
-returns c = put-over (c .before .before .before .before .before .before .put-first-line .ensures .0) (over 6 _ _ (c .before .loop .inv .0) (omega arith)) (c .before .loop .inv .1)
+returns c =
+    let put-first-line = c .before .before .before .before .before .before .put-first-line in
+    put-over (put-first-line .ensures .0) (over 6 _ _ (c .before .loop .inv .0) (omega arith)) (c .before .loop .inv .1)
 
 pub transcribe-spec : {M : Type 1} → statement M
 transcribe-spec =
