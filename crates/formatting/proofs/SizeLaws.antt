@@ -3,14 +3,14 @@ use mathlib.Core.Path.{_≡_, ap}
 use mathlib.Core.Logic.{_≢_}
 use mathlib.Core.Bool.{Bool, true, false, not, _||_}
 use mathlib.Core.List.{List}
-use Prim.Native.Nat.{ℕ, _+_, _-_, _*_, _%_, _^_, _≤_, _<_}
-use native.Mathlib.Nat.{div-add-mod', div-le-self, mul-le-mul, mul-le-mul-right, suc-mul}
+use Prim.Native.Nat.{ℕ, _+_, _*_, _%_, _^_, _≤_, _<_}
+use native.Mathlib.Nat.{div-add-mod', mul-le-mul, mul-le-mul-right, suc-mul}
 use native.Mathlib.Numerals.{add-one}
 use native.Mathlib.Omega.{arith}
 use borrow.Author.Tests.{eq-eqb, ne-eqb, lt-ltb, le-ltb, eqb-true, ltb-false}
 use lib.Dec.{ltb}
 use lib.ListN.{length}
-use Rattle.memory.specs.Geometry.{pageWords, address, mostPages, threesFor}
+use Rattle.memory.specs.Geometry.{pageWords, address, mostPages}
 use Rattle.memory.specs.Words.{index}
 use Rattle.memory.proofs.Widths.{words-most}
 use Rattle.rules.specs.Conditions.{pagesIn, wrongSize}
@@ -49,10 +49,6 @@ pub near-address : (b k : ℕ) → b ≤ 10 → k ≤ 65536 → address b k ≤ 
 near-address b k h l =
     let e : 4 * 2 ^ b ≤ 4096 = omega (arith, words-most b h) in
     mul-le-mul l e
-
--- the bound on the number of threes
-pub near-threes : (b n : ℕ) → b ≤ 10 → n ≤ 4096 → threesFor b n ≤ 6144
-near-threes b n h l = omega (arith, div-le-self (n - 5 + (2 ^ b + 2)) (2 ^ b + 3), words-most b h)
 
 pub near-product : (q w : ℕ) → q ≤ 1364 → w ≤ 1024 → q * w ≤ 1396736
 near-product q w h k = mul-le-mul h k

@@ -1,13 +1,13 @@
 // Format: each page is lent as its own part of the memory and filled there.
 use crate::root::format_word;
 use crate::sizes::pages_in;
+use crate::sizes::threes_for;
 use crate::sizes::wrong_size;
 use answers::Answer;
 use pages::PhysicalPage;
-use pages::threes_for;
 ghost use mathlib.Core.Path.{_≡_};
 ghost use mathlib.Core.Bool.{false};
-ghost use Prim.Native.Nat.{_≤_};
+ghost use Prim.Native.Nat.{_+_, _<_, _≤_};
 ghost use lib.ListN.{length};
 ghost use Rattle.memory.specs.Geometry.{threesFor, pageWords};
 ghost use Rattle.memory.specs.Words.{tabulate};

@@ -1,7 +1,8 @@
-// The size of a memory, and the address of a page.
+// The size of a memory, and what format counts from it.
 ghost use mathlib.Core.Path.{_≡_};
-ghost use Prim.Native.Nat.{_≤_};
+ghost use Prim.Native.Nat.{_+_, _*_, _<_, _≤_};
 ghost use Rattle.memory.specs.Geometry;
+ghost use Rattle.memory.specs.Geometry.{threesFor};
 ghost use Rattle.rules.specs.Conditions.{pagesIn, wrongSize};
 ghost use Rattle.pages.specs.Width.{Width};
 
@@ -27,6 +28,16 @@ pub fn wrong_size(b: u32, m: &[u32]) -> bool
         return true;
     }
     4 * w < n
+}
+
+// "T is the smallest number with 67T ≥ N−5". In 32 bits, since the number of pages is bounded here: `pages::threes_for` takes any number, and costs more.
+pub fn threes_for(b: u32, n: u32) -> u32
+    requires { ⌜ Width b ⌝ }
+    requires pages { ⌜ (16 ≤ n) × (n ≤ 4096) ⌝ }
+    ensures { λ r. ⌜ (r ≡ threesFor b n) × (r ≤ 6144) ⌝ }
+{
+    let w = pages::page_words(b);
+    (n - 5 + (w + 2)) / (w + 3)
 }
 
 // The address of a page that is not far up.

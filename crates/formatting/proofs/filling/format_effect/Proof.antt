@@ -8,7 +8,7 @@ use Rattle.memory.specs.Format.{format}
 use Rattle.memory.specs.Geometry.{pageWords}
 use Rattle.rules.specs.Effects.{effect}
 use Rattle.formatting.proofs.FillLaws.{formatted, formatted-none, formatted-more, formatted-long, formatted-all}
-use Rattle.formatting.proofs.SizeLaws.{size-right, size-bounds, near-threes, page-inside, page-long}
+use Rattle.formatting.proofs.SizeLaws.{size-right, size-bounds, page-inside, page-long}
 use Rattle.formatting.proofs.filling.format_effect.Statement.{statement}
 use Rattle.formatting.proofs.filling.format_effect.Tie as tie
 
@@ -28,7 +28,10 @@ cast-n c =
     omega (arith, size-bounds (s .b) (s .m .now) (h .0 .1) (h .1))
 
 threes-for-requires : tie.Need-threes-for-requires Inv-loop μ-loop
-threes-for-requires c κs = search needs
+threes-for-requires c κs =
+    let h = c .before .before .before .pre in
+    let s = c .before .before .before .args in
+    (h .0, omega (arith, size-bounds (s .b) (s .m .now) (h .0 .1) (h .1)))
 
 loop-holds : tie.Need-loop-holds Inv-loop μ-loop
 loop-holds c =
@@ -67,15 +70,10 @@ part-format-page-end c =
 format-page-requires : tie.Need-format-page-requires Inv-loop μ-loop
 format-page-requires c κs =
     let h = c .before .before .before .before .before .before .before .before .before .pre in
-    let pages-in = c .before .before .before .before .before .before .pages-in in
     let threes-for = c .before .before .before .before .before .threes-for in
     let s = c .before .before .before .before .before .before .before .before .before .args in
     let z = size-bounds (s .b) (s .m .now) (h .0 .1) (h .1) in
-    let n = pages-in .result in
-    let t = threes-for .ensures .0 in (
-      h .0,
-      ((t, omega (arith, t, near-threes (s .b) n (h .0 .1) (omega (arith, z)))), (omega (arith, z), omega (arith, z), simp length-take (omega (arith, page-long (s .b) (c .before .before .before .before .loop .p))))),
-    )
+    (h .0, (threes-for .ensures, (omega (arith, z), omega (arith, z), simp length-take (omega (arith, page-long (s .b) (c .before .before .before .before .loop .p))))))
 
 add-p : tie.Need-add-p Inv-loop μ-loop
 add-p c =
