@@ -1,29 +1,16 @@
 -- What prepare and collect leave, in the terms of the functions that they are made of. Assumes nothing.
-use mathlib.Core.Path.{_≡_, ap, _∙_}
+use mathlib.Core.Path.{_≡_}
 use mathlib.Core.List.{List, [], _∷_}
-use Prim.Native.Nat.{ℕ, min, _+_, _-_, _*_}
-use native.Mathlib.Nat.{le-refl}
-use native.Mathlib.Omega.{arith}
-use lib.ListN.{length, take, drop}
-use lib.Seq.{take-take}
-use Rattle.memory.specs.Geometry.{pageWords, address, pageOf, directoryIndex}
-use Rattle.memory.specs.Words.{start, index, word, put, page, overwrite}
+use Prim.Native.Nat.{ℕ, _+_, _*_}
+use Rattle.memory.specs.Geometry.{address, pageOf, directoryIndex}
+use Rattle.memory.specs.Words.{index, word, put, overwrite}
 use Rattle.memory.specs.Partition.{current, directory, shadow1, shadow2, list, mapping}
 use Rattle.rules.specs.Call.{prepare, collect}
 use Rattle.rules.specs.Moves.{takeAll, returnAll}
 use Rattle.rules.specs.Conditions.{child, link}
 use Rattle.rules.specs.Effects.{threePlace, prepareThree, collectThree, effect}
 use Rattle.rules.specs.Calls.{result}
-use Rattle.moves.proofs.Parts.{part-of-page}
 use Rattle.threes.specs.Standing.{putThree, dropped}
-
--- the part of the memory that is page p
-pub page-part : (b : ℕ) (m : List ℕ) (p a e w : ℕ) → a ≡ min (index b p 0) (length m) → e ≡ min (index b p w) (length m) → w ≡ pageWords b
-    → take (e - a) (drop a m) ≡ page b m p
-page-part b m p a e w ha he hw =
-    let z : w ≡ 0 + pageWords b = omega arith in
-    part-of-page b m p 0 (pageWords b) a e ha (he ∙ ap (λ (x : ℕ). min (index b p x) (length m)) z) (omega arith)
-    ∙ take-take (pageWords b) (pageWords b) (drop (start b p) m) (le-refl (pageWords b))
 
 module _ (b : ℕ) (m : List ℕ) (c t p : ℕ) where
   pub prepare-is : {d k l free dir s₁ s₂ u i q s x y z : ℕ} {m₁ m₂ m₃ : List ℕ} → d ≡ current b m → k ≡ child b m c → l ≡ list b m k → free ≡ word b m l 0

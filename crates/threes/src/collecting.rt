@@ -40,10 +40,7 @@ fn any_mapping(b: u32, m: &[u32], k: PhysicalPage, t: u32) -> bool
     requires { ⌜ Width b ⌝ }
     ensures { λ r. ⌜ r ≡ anyMapping b (now (m .entry)) (k .0) t ⌝ }
 {
-    let p = pages::page_of(b, pages::table_for(b, m, k, t));
-    let a = pages::least(pages::index(b, p, 0), m.len());
-    let e = pages::least(pages::index(b, p, pages::page_words(b)), m.len());
-    any_word(&m[a..e])
+    any_word(pages::words_of(b, m, pages::page_of(b, pages::table_for(b, m, k, t))))
 }
 
 // 1 3 5 8 12
