@@ -1,5 +1,5 @@
--- The judge looks at no more partitions than there are pages, on any memory, however its words point: each partition that it goes on from marks a page
--- that had no mark. Assumes that there is a page.
+-- The walk of the quick test looks at no more partitions than there are pages, on any memory, however its words point: each partition that it goes on
+-- from marks a page that had no mark. It is a bound on the definition's walk, which the code's answer is proved equal to. Assumes that there is a page.
 use mathlib.Core.List.{List}
 use Prim.Native.Nat.{ℕ, suc, _≤_, _<_}
 use native.Mathlib.Omega.{arith}
