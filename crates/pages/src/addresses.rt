@@ -68,13 +68,31 @@ pub fn place(b: u32, a: u32) -> u32
     low(a, b + 2)
 }
 
+// Where page number k starts, in bytes: the same for either kind.
+fn start(b: u32, k: u32) -> u32
+    requires { ⌜ Width b ⌝ }
+    requires fits { ⌜ Geometry.address b k < 4294967296 ⌝ }
+    ensures { λ r. ⌜ r ≡ Geometry.address b k ⌝ }
+{
+    k << (b + 2)
+}
+
 // "A physical address is 256k."
 pub fn address(b: u32, p: PhysicalPage) -> u32
     requires { ⌜ Width b ⌝ }
     requires fits { ⌜ Geometry.address b (p .0) < 4294967296 ⌝ }
     ensures { λ r. ⌜ r ≡ Geometry.address b (p .0) ⌝ }
 {
-    p.0 << (b + 2)
+    start(b, p.0)
+}
+
+// The address of a virtual page.
+pub fn address_of(b: u32, v: VirtualPage) -> u32
+    requires { ⌜ Width b ⌝ }
+    requires fits { ⌜ Geometry.address b (v .0) < 4294967296 ⌝ }
+    ensures { λ r. ⌜ r ≡ Geometry.address b (v .0) ⌝ }
+{
+    start(b, v.0)
 }
 
 // The address of the page that a word names: it always fits, with room for the flags.

@@ -1,4 +1,4 @@
-// Words, addresses and tables, for every index width b: the only code that shifts or multiplies by it.
+// The layout of the memory in code: words, page numbers, addresses, tables and sizes, for every index width b.
 pub mod addresses;
 pub mod counts;
 pub mod entries;
@@ -13,6 +13,7 @@ pub mod words;
 pub use addresses::PhysicalPage;
 pub use addresses::VirtualPage;
 pub use addresses::address;
+pub use addresses::address_of;
 pub use addresses::bad_address;
 pub use addresses::bad_page;
 pub use addresses::directory_index;
@@ -49,6 +50,7 @@ pub use parts::fill_page;
 pub use parts::least;
 pub use parts::wipe_page;
 pub use parts::words_of;
+pub use sizes::flat_page;
 pub use sizes::flat_pages;
 pub use sizes::threes_for;
 pub use tables::put_table_word;

@@ -1,7 +1,9 @@
-// The numbers of threes and of flat pages that format makes of n pages.
+// The numbers of threes and of flat pages that format makes of n pages, and where the flat pages lie.
+use crate::addresses::PhysicalPage;
+use crate::addresses::VirtualPage;
 use crate::widths::page_words;
 ghost use mathlib.Core.Path.{_≡_};
-ghost use Prim.Native.Nat.{_-_, _<_};
+ghost use Prim.Native.Nat.{_+_, _-_, _*_, _<_};
 ghost use Rattle.memory.specs.Geometry.{threesFor, flatPages};
 ghost use Rattle.pages.specs.Width.{Width};
 
@@ -27,4 +29,12 @@ pub fn flat_pages(b: u32, n: u32) -> u32
     ensures { λ r. ⌜ r ≡ flatPages b n ⌝ }
 {
     minus(minus(n, 6), 3 * threes_for(b, n))
+}
+
+// "maps virtual page v (1 to F) to page 5+3T+v", with t threes.
+pub fn flat_page(t: u32, v: VirtualPage) -> PhysicalPage
+    requires { ⌜ 5 + 3 * t + v .0 < 4294967296 ⌝ }
+    ensures { λ r. ⌜ r .0 ≡ 5 + 3 * t + v .0 ⌝ }
+{
+    PhysicalPage(5 + 3 * t + v.0)
 }
