@@ -11,8 +11,8 @@ use Rattle.pages.proofs.Fits.{address-small}
 use Rattle.soundness.specs.Test.{soundTest}
 use Rattle.soundness.proofs.Whole.{test-sound}
 
--- the end of the root's pages is an address
-pub end-fits : (b : ℕ) (m : List ℕ) → b ≤ 10 → soundTest b m ≡ true → address b (flatPages b (pages b m) + 1) < 4294967296
-end-fits b m h e =
+-- a virtual page up to the end of the root's pages has an address
+pub end-fits : (b : ℕ) (m : List ℕ) → b ≤ 10 → soundTest b m ≡ true → (v : ℕ) → v ≤ flatPages b (pages b m) + 1 → address b v < 4294967296
+end-fits b m h e v l =
     let s = test-sound b m e in
-    omega (arith, address-small b (flatPages b (pages b m) + 1) h (omega (arith, words-most b h, s .header .least, s .header .most)))
+    omega (arith, address-small b v h (omega (arith, words-most b h, s .header .least, s .header .most)))

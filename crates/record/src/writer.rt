@@ -3,8 +3,8 @@ use crate::bytes::MAGIC;
 use crate::bytes::little_endian;
 use crate::bytes::put_bytes;
 use answers::Answer;
-use pages::PhysicalPage;
-use pages::address;
+use pages::VirtualPage;
+use pages::address_of;
 use pages::flat_pages;
 use pages::page_bytes;
 ghost use mathlib.Core.Path.{_≡_};
@@ -27,7 +27,7 @@ fn end_of(b: u32, m: &[u32]) -> u32
     ensures { λ r. ⌜ r ≡ Geometry.address b (flatPages b (Partition.pages b (now (m .entry))) + 1) ⌝ }
 {
     let f = flat_pages(b, pages::pages(b, m));
-    address(b, PhysicalPage(f + 1))
+    address_of(b, VirtualPage(f + 1))
 }
 
 // The record's 76 bytes, from the first of `out` on.

@@ -1,6 +1,7 @@
 -- `record::writer::end_of` meets its contract. A sound memory has so few pages that the address fits. Assumes nothing.
-use mathlib.Core.Path.{sym, ap, _∙_, subst}
-use Prim.Native.Nat.{ℕ, _+_, _<_}
+use mathlib.Core.Path.{ap, _∙_}
+use Prim.Native.Nat.{ℕ, _+_}
+use native.Mathlib.Omega.{arith}
 use borrow.Author.Needs.{needs}
 use Rattle.memory.specs.Geometry as Geometry
 use Rattle.record.proofs.Sizes.{end-fits}
@@ -16,21 +17,18 @@ flat-pages-requires c κs = search needs
 add-t4 : tie.Need-add-t4
 add-t4 c = search needs
 
-address-requires : tie.Need-address-requires
-address-requires c κs =
+address-of-requires : tie.Need-address-of-requires
+address-of-requires c κs =
     let h = c .before .before .before .pre in
-    let s = c .before .before .before .args in (
-      h .0,
-      subst (λ (n : ℕ). Geometry.address (s .b) (n + 1) < 4294967296) (sym (c .flat-pages .ensures ∙ ap (Geometry.flatPages (s .b)) (c .before .pages .ensures)))
-          (end-fits (s .b) (s .m .now) (h .0 .1) (h .1)),
-    )
+    let s = c .before .before .before .args in
+    (h .0, end-fits (s .b) (s .m .now) (h .0 .1) (h .1) _ (omega (arith, c .flat-pages .ensures ∙ ap (Geometry.flatPages (s .b)) (c .before .pages .ensures))))
 
 returns : tie.Need-returns
 returns c =
     let s = c .before .before .before .before .args in
-    c .address .ensures ∙ ap (λ (n : ℕ). Geometry.address (s .b) (n + 1))
+    c .address-of .ensures ∙ ap (λ (n : ℕ). Geometry.address (s .b) (n + 1))
     (c .before .flat-pages .ensures ∙ ap (Geometry.flatPages (s .b)) (c .before .before .pages .ensures))
 
 pub end-of-spec : {M : Type 1} → statement M
 end-of-spec =
-    tie.close (tie.spec pages-requires flat-pages-requires add-t4 address-requires returns)
+    tie.close (tie.spec pages-requires flat-pages-requires add-t4 address-of-requires returns)
