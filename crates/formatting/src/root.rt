@@ -1,6 +1,8 @@
 // The words that format leaves, page by page. n is the number of pages, t that of the root's threes.
 use crate::sizes::page_address;
 use pages::PhysicalPage;
+use pages::VirtualPage;
+use pages::flat_page;
 ghost use mathlib.Core.Path.{_≡_};
 ghost use Prim.Native.Nat.{_+_, _*_, _<_, _≤_};
 ghost use Rattle.memory.specs.Geometry.{threesFor, pageWords};
@@ -14,8 +16,8 @@ fn header_word(b: u32, n: u32, t: u32, i: u32) -> u32
     requires threes { ⌜ (t ≡ threesFor b n) × (t ≤ 6144) ⌝ }
     ensures { λ r. ⌜ r ≡ headerWord b n i ⌝ }
 {
-    let root = page_address(b, 1);
-    let first = page_address(b, 6 + 3 * t);
+    let root = page_address(b, PhysicalPage(1));
+    let first = page_address(b, PhysicalPage(6 + 3 * t));
     pages::read(&[n, t, root, first, root], i as usize)
 }
 
@@ -24,11 +26,11 @@ fn descriptor_word(b: u32, i: u32) -> u32
     requires { ⌜ Width b ⌝ }
     ensures { λ r. ⌜ r ≡ rootDescriptorWord b i ⌝ }
 {
-    let d = page_address(b, 1);
-    let t = page_address(b, 2);
-    let s1 = page_address(b, 3);
-    let s2 = page_address(b, 4);
-    let l = page_address(b, 5);
+    let d = page_address(b, PhysicalPage(1));
+    let t = page_address(b, PhysicalPage(2));
+    let s1 = page_address(b, PhysicalPage(3));
+    let s2 = page_address(b, PhysicalPage(4));
+    let l = page_address(b, PhysicalPage(5));
     pages::read(&[0, d, 0, t, 0, s1, 0, s2, 0, l, 0, 0], i as usize)
 }
 
@@ -42,7 +44,7 @@ fn directory_word(b: u32, n: u32, t: u32, k: u32, i: u32) -> u32
     if i >= t {
         return 0;
     }
-    page_address(b, 6 + 3 * i + k) + 1
+    page_address(b, PhysicalPage(6 + 3 * i + k)) + 1
 }
 
 // "word 0 first free word index, 1+6n with n threes; then pairs (virtual in parent, physical)"
@@ -60,23 +62,23 @@ fn list_word(b: u32, n: u32, t: u32, i: u32) -> u32
     if i > 6 * t {
         return 0;
     }
-    page_address(b, 5 + i / 2)
+    page_address(b, PhysicalPage(5 + i / 2))
 }
 
 // "maps virtual page v (1 to F) to page 5+3T+v with all rights, accessible"
-fn table_word(b: u32, n: u32, t: u32, v: u32) -> u32
+fn table_word(b: u32, n: u32, t: u32, v: VirtualPage) -> u32
     requires { ⌜ Width b ⌝ }
     requires threes { ⌜ (t ≡ threesFor b n) × (t ≤ 6144) ⌝ }
-    requires pages { ⌜ (n ≤ 4096) × (v ≤ 4194304) ⌝ }
-    ensures { λ r. ⌜ r ≡ rootTableWord b n v ⌝ }
+    requires pages { ⌜ (n ≤ 4096) × (v .0 ≤ 4194304) ⌝ }
+    ensures { λ r. ⌜ r ≡ rootTableWord b n (v .0) ⌝ }
 {
-    if v == 0 {
+    if v.0 == 0 {
         return 0;
     }
-    if n < v + 6 + 3 * t {
+    if n < v.0 + 6 + 3 * t {
         return 0;
     }
-    pages::entry_of(b, page_address(b, 5 + 3 * t + v), 1, 7)
+    pages::entry_of(b, page_address(b, flat_page(t, v)), 1, 7)
 }
 
 // Word i of a page.
@@ -105,5 +107,5 @@ pub fn format_word(b: u32, n: u32, t: u32, page: PhysicalPage, i: u32) -> u32
     if p % 3 != 0 {
         return 0;
     }
-    table_word(b, n, t, (p - 6) / 3 * pages::page_words(b) + i)
+    table_word(b, n, t, VirtualPage((p - 6) / 3 * pages::page_words(b) + i))
 }

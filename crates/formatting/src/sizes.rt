@@ -1,4 +1,5 @@
 // The size of a memory, and what format counts from it.
+use pages::PhysicalPage;
 ghost use mathlib.Core.Path.{_≡_};
 ghost use Prim.Native.Nat.{_+_, _*_, _<_, _≤_};
 ghost use Rattle.memory.specs.Geometry;
@@ -41,10 +42,10 @@ pub fn threes_for(b: u32, n: u32) -> u32
 }
 
 // The address of a page that is not far up.
-pub fn page_address(b: u32, k: u32) -> u32
+pub fn page_address(b: u32, p: PhysicalPage) -> u32
     requires { ⌜ Width b ⌝ }
-    requires near { ⌜ k ≤ 65536 ⌝ }
-    ensures { λ r. ⌜ (r ≡ Geometry.address b k) × (r ≤ 268435456) ⌝ }
+    requires near { ⌜ p .0 ≤ 65536 ⌝ }
+    ensures { λ r. ⌜ (r ≡ Geometry.address b (p .0)) × (r ≤ 268435456) ⌝ }
 {
-    pages::address(b, pages::PhysicalPage(k))
+    pages::address(b, p)
 }

@@ -9,14 +9,14 @@ use Rattle.formatting.proofs.root.directory_word.Tie as tie
 returns : tie.Need-returns
 returns c = let s = c .before .args in directory-out (s .b) (s .n) (s .t) (c .before .pre .1 .0 .0) (s .k) (s .i) (c .if1 .taken)
 
-mul-page-address : tie.Need-mul-page-address
-mul-page-address c = search needs
+mul-t8 : tie.Need-mul-t8
+mul-t8 c = search needs
 
-add-page-address : tie.Need-add-page-address
-add-page-address c = search needs
+add-t9 : tie.Need-add-t9
+add-t9 c = search needs
 
-add-page-address-2 : tie.Need-add-page-address-2
-add-page-address-2 c = search needs
+add-t10 : tie.Need-add-t10
+add-t10 c = search needs
 
 page-address-requires : tie.Need-page-address-requires
 page-address-requires c κs = search needs
@@ -32,9 +32,9 @@ directory-word-spec =
     tie.close
     (tie.spec
     returns
-    mul-page-address
-    add-page-address
-    add-page-address-2
+    mul-t8
+    add-t9
+    add-t10
     page-address-requires
     add-result
     returns-2)

@@ -52,17 +52,17 @@ returns-6 c =
     let h = c .before .before .before .before .before .before .pre in
     let s = c .before .before .before .before .before .before .args in word-shadow (s .b) (s .n) (s .t) (h .1 .0 .0) (s .page .0) (s .i) (omega arith) (c .before .if5 .left) (c .if6 .taken)
 
-sub-table-word : tie.Need-sub-table-word
-sub-table-word c = search needs
+sub-t10 : tie.Need-sub-t10
+sub-t10 c = search needs
 
 page-words-requires : tie.Need-page-words-requires
 page-words-requires c κs = search needs
 
-mul-table-word : tie.Need-mul-table-word
-mul-table-word c = omega (arith, near-product ((c .before .before .before .before .before .before .before .args .page .0 - 6) / 3) (c .page-words .result) (omega arith) (c .page-words .ensures .1))
+mul-t12 : tie.Need-mul-t12
+mul-t12 c = omega (arith, near-product ((c .before .before .before .before .before .before .before .args .page .0 - 6) / 3) (c .page-words .result) (omega arith) (c .page-words .ensures .1))
 
-add-table-word : tie.Need-add-table-word
-add-table-word c = omega (arith, near-product ((c .before .before .before .before .before .before .before .args .page .0 - 6) / 3) (c .page-words .result) (omega arith) (c .page-words .ensures .1))
+add-t13 : tie.Need-add-t13
+add-t13 c = omega (arith, near-product ((c .before .before .before .before .before .before .before .args .page .0 - 6) / 3) (c .page-words .result) (omega arith) (c .page-words .ensures .1))
 
 table-word-requires : tie.Need-table-word-requires
 table-word-requires c κs =
@@ -95,9 +95,9 @@ format-word-spec =
     add-if5
     returns-5
     returns-6
-    sub-table-word
+    sub-t10
     page-words-requires
-    mul-table-word
-    add-table-word
+    mul-t12
+    add-t13
     table-word-requires
     returns-7)

@@ -8,11 +8,11 @@ use Rattle.formatting.proofs.root.header_word.Tie as tie
 page-address-requires : tie.Need-page-address-requires
 page-address-requires c κs = search needs
 
-mul-page-address : tie.Need-mul-page-address
-mul-page-address c = search needs
+mul-t8 : tie.Need-mul-t8
+mul-t8 c = search needs
 
-add-page-address : tie.Need-add-page-address
-add-page-address c = search needs
+add-t9 : tie.Need-add-t9
+add-t9 c = search needs
 
 page-address-requires-2 : tie.Need-page-address-requires-2
 page-address-requires-2 c κs = search needs
@@ -36,8 +36,8 @@ header-word-spec =
     tie.close
     (tie.spec
     page-address-requires
-    mul-page-address
-    add-page-address
+    mul-t8
+    add-t9
     page-address-requires-2
     slice-aggregate-read
     read-requires

@@ -23,8 +23,8 @@ mul-if3 c = search needs
 returns-3 : tie.Need-returns-3
 returns-3 c = let s = c .before .before .before .args in list-after (s .b) (s .n) (s .t) (c .before .before .before .pre .1 .0) (s .i) (c .before .before .if1 .left) (c .before .if2 .left) (c .if3 .taken)
 
-add-page-address : tie.Need-add-page-address
-add-page-address c = search needs
+add-t8 : tie.Need-add-t8
+add-t8 c = search needs
 
 page-address-requires : tie.Need-page-address-requires
 page-address-requires c κs = search needs
@@ -42,6 +42,6 @@ list-word-spec =
     returns-2
     mul-if3
     returns-3
-    add-page-address
+    add-t8
     page-address-requires
     returns-4)
