@@ -5,7 +5,7 @@ ghost use mathlib.Core.Path.{_≡_};
 ghost use mathlib.Core.Bool.{cond};
 ghost use Prim.Native.Nat.{_+_, _*_, _<_, _≤_};
 ghost use lib.Dec.{eqb};
-ghost use Rattle.memory.specs.Geometry.{pageWords, address};
+ghost use Rattle.memory.specs.Geometry.{pageWords};
 ghost use Rattle.memory.specs.Partition.{lent};
 ghost use Rattle.rules.specs.Effects;
 ghost use Rattle.rules.specs.Effects.{releaseAll};
@@ -33,15 +33,6 @@ fn release_if(b: u32, m: &mut [u32], d: PhysicalPage, c: u32, a: u32)
     }
 }
 
-// Where virtual page v starts.
-fn start_of(b: u32, v: VirtualPage) -> u32
-    requires { ⌜ Width b ⌝ }
-    requires fits { ⌜ address b (v .0) < 4294967296 ⌝ }
-    ensures { λ r. ⌜ r ≡ address b (v .0) ⌝ }
-{
-    v.0 * pages::page_bytes(b)
-}
-
 // The n virtual pages from page v on.
 fn release_run(b: u32, m: &mut [u32], d: PhysicalPage, c: u32, v: VirtualPage, n: u32)
     requires { ⌜ Width b ⌝ }
@@ -51,7 +42,7 @@ fn release_run(b: u32, m: &mut [u32], d: PhysicalPage, c: u32, v: VirtualPage, n
     let first = v.0;
     let mut k = 0;
     while k < n {
-        release_if(b, m, d, c, start_of(b, VirtualPage(first + k)));
+        release_if(b, m, d, c, pages::address_of(b, VirtualPage(first + k)));
         k += 1;
     }
 }

@@ -26,8 +26,8 @@ loop-holds c =
 add-t14 : tie.Need-add-t14 Inv-loop μ-loop
 add-t14 c = omega (arith, square-most (c .before .before .before .before .args .b) (c .before .before .before .before .pre .0 .1))
 
-start-of-requires : tie.Need-start-of-requires Inv-loop μ-loop
-start-of-requires c κs =
+address-of-requires : tie.Need-address-of-requires Inv-loop μ-loop
+address-of-requires c κs =
     let s = c .before .before .before .before in
     (s .pre .0, page-address-fits (s .args .b) (s .args .v .0 + c .before .before .loop .k) (s .pre .0 .1) (omega arith))
 
@@ -44,7 +44,7 @@ loop-again : tie.Need-loop-again Inv-loop μ-loop
 loop-again c =
     let s = c .before .before .before .before .before .before .before .before .args in
     let p = c .before .before .before .before .before .before .loop in
-    let e = c .before .before .release-if .ensures ∙ ap (λ (a : ℕ). releasing (s .b) (p .m) (s .d .0) a (s .c)) (c .before .before .before .start-of .ensures) in (
+    let e = c .before .before .release-if .ensures ∙ ap (λ (a : ℕ). releasing (s .b) (p .m) (s .d .0) a (s .c)) (c .before .before .before .address-of .ensures) in (
       ap (λ (x : List ℕ). releaseAll (s .b) (s .n - (p .k + 1)) (s .v .0 + (p .k + 1)) x (s .d .0) (s .c)) e
           ∙ sym (releaseAll-more (s .b) (s .d .0) (s .c) (p .m) (s .n) (s .v .0) (p .k) (omega arith))
           ∙ p .inv .0,
@@ -69,7 +69,7 @@ release-run-spec =
     μ-loop
     loop-holds
     add-t14
-    start-of-requires
+    address-of-requires
     release-if-requires
     add-k
     loop-less
