@@ -69,9 +69,9 @@ module _ (b : ℕ) (m : List ℕ) where
       (entryTest b m w && virtual b y && shadow1Word d v w x
       && (eqb d 1 || fromWords (directory b m (parent b m d)) (shadow1 b m (parent b m d)) (word b m d 0) w y))
 
--- the words of the root at virtual page v: it maps the flat pages, from first + 1 on
+-- the words of the root at virtual page v, with t threes: it "maps virtual page v (1 to F) to page 5+3T+v"
 abbrev pub rootWord : ℕ → ℕ → ℕ → ℕ → ℕ → Bool
-rootWord b first flat v w = cond (leb 1 v && leb v flat) (eqb (pageOf b w) (first + v) && eqb (rights w) allRights) (eqb w 0)
+rootWord b t flat v w = cond (leb 1 v && leb v flat) (eqb (pageOf b w) (5 + 3 * t + v) && eqb (rights w) allRights) (eqb w 0)
 
 abbrev pub rootWords : ℕ → ℕ → ℕ → ℕ → ℕ → ℕ → Bool
-rootWords b first flat v w y = eqb y 0 && rootWord b first flat v w
+rootWords b t flat v w y = eqb y 0 && rootWord b t flat v w

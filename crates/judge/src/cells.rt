@@ -1,6 +1,5 @@
 // The three table words of a partition at one address: w of the page table, x of shadow 1, y of shadow 2.
 use crate::children::child_at;
-use crate::rows::address_of;
 use crate::rows::block_of;
 use crate::rows::next_word;
 use crate::rows::table_of;
@@ -10,6 +9,7 @@ use forms::virtual_address;
 use pages::PhysicalPage;
 use pages::VirtualPage;
 use pages::accessible;
+use pages::address_of;
 use pages::directory;
 use pages::has_rights;
 use pages::least;

@@ -5,6 +5,7 @@ use forms::root_pages;
 use pages::PhysicalPage;
 use pages::VirtualPage;
 use pages::directory;
+use pages::flat_page;
 use pages::flat_pages;
 use pages::least;
 use pages::page_of;
@@ -17,7 +18,7 @@ use pages::threes_for;
 use pages::words_of;
 ghost use mathlib.Core.Path.{_≡_};
 ghost use mathlib.Core.Bool.{true};
-ghost use Prim.Native.Nat.{_+_, _≤_, _<_};
+ghost use Prim.Native.Nat.{_+_, _*_, _≤_, _<_};
 ghost use lib.ListN.{length, getD};
 ghost use Rattle.walk.specs.Finite.{from, all};
 ghost use Rattle.memory.specs.Geometry.{pageWords};
@@ -27,11 +28,11 @@ ghost use Rattle.judge.specs.Run.{run, asking, bit};
 ghost use Rattle.judge.specs.Rows.{virtualPages, rootWords};
 ghost use Rattle.pages.specs.Width.{Width};
 
-// The root's words at virtual page v: "it maps exactly the flat pages, with all rights". They are `flat` pages, the first at page first + 1.
-pub fn root_cell(b: u32, first: u32, flat: u32, v: VirtualPage, w: u32, y: u32) -> bool
+// The root's words at virtual page v: "it maps exactly the flat pages, with all rights". There are t threes and `flat` flat pages.
+pub fn root_cell(b: u32, t: u32, flat: u32, v: VirtualPage, w: u32, y: u32) -> bool
     requires { ⌜ Width b ⌝ }
-    requires page { ⌜ first + v .0 < 4294967296 ⌝ }
-    ensures { λ r. ⌜ r ≡ rootWords b first flat (v .0) w y ⌝ }
+    requires page { ⌜ 5 + 3 * t + v .0 < 4294967296 ⌝ }
+    ensures { λ r. ⌜ r ≡ rootWords b t flat (v .0) w y ⌝ }
 {
     if y != 0 {
         return false;
@@ -42,41 +43,41 @@ pub fn root_cell(b: u32, first: u32, flat: u32, v: VirtualPage, w: u32, y: u32) 
     if flat < v.0 {
         return w == 0;
     }
-    if page_of(b, w).0 != first + v.0 {
+    if page_of(b, w).0 != flat_page(t, v).0 {
         return false;
     }
     rights(w) == 7
 }
 
 // 1 where they pass.
-fn root_bit(b: u32, first: u32, flat: u32, v: VirtualPage, w: u32, y: u32) -> u32
+fn root_bit(b: u32, t: u32, flat: u32, v: VirtualPage, w: u32, y: u32) -> u32
     requires { ⌜ Width b ⌝ }
-    requires page { ⌜ first + v .0 < 4294967296 ⌝ }
-    ensures { λ r. ⌜ (r ≡ bit (rootWords b first flat (v .0) w y)) × (r ≤ 1) ⌝ }
+    requires page { ⌜ 5 + 3 * t + v .0 < 4294967296 ⌝ }
+    ensures { λ r. ⌜ (r ≡ bit (rootWords b t flat (v .0) w y)) × (r ≤ 1) ⌝ }
 {
-    if root_cell(b, first, flat, v, w, y) {
+    if root_cell(b, t, flat, v, w, y) {
         return 1;
     }
     0
 }
 
 // A row of the root, from virtual page v on. The places that both tables have are counted without a branch.
-pub fn root_row(b: u32, first: u32, flat: u32, v: VirtualPage, pt: &[u32], s2: &[u32]) -> bool
+pub fn root_row(b: u32, t: u32, flat: u32, v: VirtualPage, pt: &[u32], s2: &[u32]) -> bool
     requires { ⌜ Width b ⌝ }
     requires row { ⌜ v .0 + pageWords b ≤ virtualPages b ⌝ }
-    requires page { ⌜ first + virtualPages b ≤ 4294967296 ⌝ }
+    requires page { ⌜ 5 + 3 * t + virtualPages b ≤ 4294967296 ⌝ }
     requires short { ⌜ length (now pt) ≤ pageWords b ⌝ }
     ensures { λ r.
         ⌜
         r
-        ≡ run (asking (λ j. rootWords b first flat (v .0 + j) (getD (now (pt .entry)) j 0) (getD (now (s2 .entry)) j 0))) true (from (pageWords b) 0)
+        ≡ run (asking (λ j. rootWords b t flat (v .0 + j) (getD (now (pt .entry)) j 0) (getD (now (s2 .entry)) j 0))) true (from (pageWords b) 0)
         ⌝ }
 {
     let n = least(pt.len(), s2.len());
     let mut k: u32 = 0;
     let mut i = 0;
     while i < n {
-        k += root_bit(b, first, flat, VirtualPage(v.0 + (i as u32)), pt[i], s2[i]);
+        k += root_bit(b, t, flat, VirtualPage(v.0 + (i as u32)), pt[i], s2[i]);
         i += 1;
     }
     if (k as usize) < n {
@@ -87,7 +88,7 @@ pub fn root_row(b: u32, first: u32, flat: u32, v: VirtualPage, pt: &[u32], s2: &
     while j < end {
         if !root_cell(
             b,
-            first,
+            t,
             flat,
             VirtualPage(v.0 + j),
             read(pt, j as usize),
@@ -106,7 +107,7 @@ pub fn root_map(b: u32, m: &[u32]) -> bool
     ensures { λ r. ⌜ r ≡ all (rootMapTest b (now (m .entry))) (tabled b (now (m .entry)) 1) ⌝ }
 {
     let n = pages(b, m);
-    let first = 5 + 3 * threes_for(b, n);
+    let t = threes_for(b, n);
     let flat = flat_pages(b, n);
     let dir = words_of(b, m, directory(b, m, PhysicalPage(1)));
     let sh2 = words_of(b, m, shadow2(b, m, PhysicalPage(1)));
@@ -114,14 +115,7 @@ pub fn root_map(b: u32, m: &[u32]) -> bool
     while i < dir.len() {
         let pt = table_of(b, m, dir[i]);
         let s2 = table_of(b, m, read(sh2, i));
-        if !root_row(
-            b,
-            first,
-            flat,
-            VirtualPage((i as u32) * page_words(b)),
-            pt,
-            s2,
-        ) {
+        if !root_row(b, t, flat, VirtualPage((i as u32) * page_words(b)), pt, s2) {
             return false;
         }
         i = next_word(dir, i + 1);

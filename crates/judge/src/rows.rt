@@ -1,15 +1,12 @@
 // The words of a table, lent as its own part of the memory; the next that is not 0 among such words, and blocks of eight of them.
-use pages::VirtualPage;
 use pages::count_of;
-use pages::page_bytes;
 use pages::page_of;
 use pages::words_of;
 ghost use mathlib.Core.Path.{_≡_};
 ghost use Prim.Native.Nat.{_+_, _-_, _≤_, _<_};
 ghost use lib.ListN.{length};
-ghost use Rattle.memory.specs.Geometry.{address};
 ghost use Rattle.judge.specs.Search.{seek};
-ghost use Rattle.judge.specs.Rows.{virtualPages, table, used};
+ghost use Rattle.judge.specs.Rows.{table, used};
 ghost use Rattle.judge.specs.Blocks.{blockAt, blockOf};
 ghost use Rattle.pages.specs.Width.{Width};
 
@@ -74,13 +71,4 @@ pub fn block_of(s: &[u32], n: usize, i: usize, x: u32, k: u32) -> bool
         return false;
     }
     count_of(&s[i..i + 8], x) == k
-}
-
-// The address of a virtual page.
-pub fn address_of(b: u32, v: VirtualPage) -> u32
-    requires { ⌜ Width b ⌝ }
-    requires page { ⌜ v .0 < virtualPages b ⌝ }
-    ensures { λ r. ⌜ r ≡ address b (v .0) ⌝ }
-{
-    v.0 * page_bytes(b)
 }

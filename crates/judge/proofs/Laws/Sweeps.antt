@@ -55,8 +55,8 @@ pub from-lender : (b : ℕ) (m : List ℕ) (d w y : ℕ) {dir sh1 v : ℕ} → L
     → fromWords b m dir sh1 v w y ≡ fromWords b m (directory b m (parent b m d)) (shadow1 b m (parent b m d)) (word b m d 0) w y
 from-lender b m d w y (e, f, g) = rw (e, f, g)
 
-pub root-words : (b first flat v : ℕ) {w y w′ y′ : ℕ} → w ≡ w′ → y ≡ y′ → rootWords b first flat v w y ≡ rootWords b first flat v w′ y′
-root-words b first flat v {w} {y} {w′} {y′} e f = ap (λ (x : ℕ). rootWords b first flat v x y) e ∙ ap (λ (x : ℕ). rootWords b first flat v w′ x) f
+pub root-words : (b t flat v : ℕ) {w y w′ y′ : ℕ} → w ≡ w′ → y ≡ y′ → rootWords b t flat v w y ≡ rootWords b t flat v w′ y′
+root-words b t flat v {w} {y} {w′} {y′} e f = ap (λ (x : ℕ). rootWords b t flat v x y) e ∙ ap (λ (x : ℕ). rootWords b t flat v w′ x) f
 
 module _ (b : ℕ) (m : List ℕ) (d : ℕ) where
   -- what is added at an address
@@ -189,11 +189,11 @@ module _ (b : ℕ) (m : List ℕ) (d : ℕ) where
 module _ (b : ℕ) (m : List ℕ) (i : ℕ) {dir pt s2 sh2 : List ℕ} {y : ℕ} (e : dir ≡ page b m (directory b m 1)) (h : i < length dir) (n : used dir i ≡ true) (ep : pt ≡ table b m (getD dir i 0))
     (e2 : sh2 ≡ page b m (shadow2 b m 1)) (ey : y ≡ getD sh2 i 0) (et : s2 ≡ table b m y) where
   abbrev rootAt : ℕ → ℕ → ℕ → Bool
-  rootAt = rootWords b (5 + 3 * threesFor b (pages b m)) (flatPages b (pages b m))
+  rootAt = rootWords b (threesFor b (pages b m)) (flatPages b (pages b m))
 
   root-is : (v : ℕ) → rootMapTest b m v ≡ rootAt (pageOf b v) (mapping b m 1 v) (above b m 1 v)
   unfolding rootMapTest
-  root-is v = and-comm (rootWord b (5 + 3 * threesFor b (pages b m)) (flatPages b (pages b m)) (pageOf b v) (mapping b m 1 v)) (eqb (above b m 1 v) 0)
+  root-is v = and-comm (rootWord b (threesFor b (pages b m)) (flatPages b (pages b m)) (pageOf b v) (mapping b m 1 v)) (eqb (above b m 1 v) 0)
 
   root-same : (j : ℕ) → j < pageWords b → rootMapTest b m (address b (i * pageWords b + j)) ≡ rootAt (i * pageWords b + j) (getD pt j 0) (getD s2 j 0)
   root-same j l =
@@ -203,9 +203,9 @@ module _ (b : ℕ) (m : List ℕ) (i : ℕ) {dir pt s2 sh2 : List ℕ} {y : ℕ}
       ∙ ap (λ (z : ℕ). rootAt (i * pageWords b + j) (getD pt j 0) z) (y-at b m 1 i e h n ep e2 ey et j l)
 
   pub root-row : {r : Bool} {v p t f : ℕ} → v ≡ i * pageWords b → p ≡ pages b m → t ≡ threesFor b p → f ≡ flatPages b p
-      → r ≡ run (asking (λ j. rootWords b (5 + 3 * t) f (v + j) (getD pt j 0) (getD s2 j 0))) true (from (pageWords b) 0) → r ≡ run (asking (rootMapTest b m)) true (row b m 1 i)
+      → r ≡ run (asking (λ j. rootWords b t f (v + j) (getD pt j 0) (getD s2 j 0))) true (from (pageWords b) 0) → r ≡ run (asking (rootMapTest b m)) true (row b m 1 i)
   root-row {v = v} {f = f} q eq er ef g =
-      g ∙ ap (λ (k : ℕ). run (asking (λ j. rootWords b (5 + 3 * k) f (v + j) (getD pt j 0) (getD s2 j 0))) true (from (pageWords b) 0)) (er ∙ ap (threesFor b) eq)
-      ∙ ap (λ (k : ℕ). run (asking (λ j. rootWords b (5 + 3 * threesFor b (pages b m)) k (v + j) (getD pt j 0) (getD s2 j 0))) true (from (pageWords b) 0)) (ef ∙ ap (flatPages b) eq)
+      g ∙ ap (λ (k : ℕ). run (asking (λ j. rootWords b k f (v + j) (getD pt j 0) (getD s2 j 0))) true (from (pageWords b) 0)) (er ∙ ap (threesFor b) eq)
+      ∙ ap (λ (k : ℕ). run (asking (λ j. rootWords b (threesFor b (pages b m)) k (v + j) (getD pt j 0) (getD s2 j 0))) true (from (pageWords b) 0)) (ef ∙ ap (flatPages b) eq)
       ∙ ap (λ (k : ℕ). run (asking (λ j. rootAt (k + j) (getD pt j 0) (getD s2 j 0))) true (from (pageWords b) 0)) q
       ∙ sym (row-run b m (asking (rootMapTest b m)) 1 dir e (asking (λ j. rootAt (i * pageWords b + j) (getD pt j 0) (getD s2 j 0))) i true h n (λ j l t. ap (λ (k : Bool). t && k) (root-same j l)))

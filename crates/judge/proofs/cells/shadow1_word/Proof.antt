@@ -2,6 +2,7 @@
 use Rattle.forms.proofs.Laws.Tests.{unequal, equal}
 use mathlib.Core.Path.{refl, sym}
 use Rattle.judge.proofs.Laws.Lent.{passed-same}
+use Rattle.judge.proofs.Laws.Numbers.{address-fits}
 use borrow.Author.Needs.{needs}
 use Rattle.judge.proofs.cells.shadow1_word.Statement.{statement}
 use Rattle.judge.proofs.cells.shadow1_word.Tie as tie
@@ -10,7 +11,10 @@ returns : tie.Need-returns
 returns c = rw (equal refl refl (c .if1 .taken))
 
 address-of-requires : tie.Need-address-of-requires
-address-of-requires c κs = search needs
+address-of-requires c κs =
+    let h = c .before .before .before .pre in
+    let s = c .before .before .before .args in
+    (h .0, address-fits (s .b) (h .0 .1) (s .v .0) (h .1 .0))
 
 page-of-requires : tie.Need-page-of-requires
 page-of-requires c κs = search needs

@@ -21,23 +21,23 @@ returns-3 c =
 page-of-requires : tie.Need-page-of-requires
 page-of-requires c κs = search needs
 
-add-if4 : tie.Need-add-if4
-add-if4 c = search needs
+flat-page-requires : tie.Need-flat-page-requires
+flat-page-requires c κs = search needs
 
 returns-4 : tie.Need-returns-4
 returns-4 c =
-    let s = c .before .before .before .before .before .before .before .before .before .args in
-    let first = c .before .before .before .before .before .before .before .before .if1 in
-    rw (equal refl refl (first .left), le-leb 1 (s .v .0) (omega arith), le-leb (s .v .0) (s .flat) (omega arith), unequal (c .before .before .before .page-of .ensures) refl (c .if4 .taken))
+    let s = c .before .before .before .before .before .before .before .before .before .before .args in
+    let first = c .before .before .before .before .before .before .before .before .before .if1 in
+    rw (equal refl refl (first .left), le-leb 1 (s .v .0) (omega arith), le-leb (s .v .0) (s .flat) (omega arith), unequal (c .before .before .before .before .page-of .ensures) (c .before .before .before .flat-page .ensures) (c .if4 .taken))
 
 rights-requires : tie.Need-rights-requires
 rights-requires c κs = search needs
 
 returns-5 : tie.Need-returns-5
 returns-5 c =
-    let s = c .before .before .before .before .before .before .before .before .before .before .args in
-    let first = c .before .before .before .before .before .before .before .before .before .if1 in
-    rw (equal refl refl (first .left), le-leb 1 (s .v .0) (omega arith), le-leb (s .v .0) (s .flat) (omega arith), equal (c .before .before .before .before .page-of .ensures) refl (c .before .if4 .left))
+    let s = c .before .before .before .before .before .before .before .before .before .before .before .args in
+    let first = c .before .before .before .before .before .before .before .before .before .before .if1 in
+    rw (equal refl refl (first .left), le-leb 1 (s .v .0) (omega arith), le-leb (s .v .0) (s .flat) (omega arith), equal (c .before .before .before .before .before .page-of .ensures) (c .before .before .before .before .flat-page .ensures) (c .before .if4 .left))
     (same-eqb (c .rights .ensures) refl)
 
 pub root-cell-spec : {M : Type 1} → statement M
@@ -48,7 +48,7 @@ root-cell-spec =
     returns-2
     returns-3
     page-of-requires
-    add-if4
+    flat-page-requires
     returns-4
     rights-requires
     returns-5)

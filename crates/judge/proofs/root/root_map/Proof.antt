@@ -21,22 +21,16 @@ use Rattle.judge.proofs.root.root_map.Statement.{statement}
 use Rattle.judge.proofs.root.root_map.Tie as tie
 
 abbrev Inv-loop : tie.InvT-loop
-Inv-loop b m n first flat dir sh2 i₀ i = (i ≤ length dir) × (i < length dir → used dir i ≡ true) × (all (rootMapTest b m) (tabled b m 1) ≡ run (rowStep b m (asking (rootMapTest b m)) 1) true (from (pageWords b - i) i))
+Inv-loop b m n t flat dir sh2 i₀ i = (i ≤ length dir) × (i < length dir → used dir i ≡ true) × (all (rootMapTest b m) (tabled b m 1) ≡ run (rowStep b m (asking (rootMapTest b m)) 1) true (from (pageWords b - i) i))
 
 abbrev μ-loop : tie.MeasureT-loop
-μ-loop b m n first flat dir sh2 i₀ i = length dir - i
+μ-loop b m n t flat dir sh2 i₀ i = length dir - i
 
 pages-requires : tie.Need-pages-requires Inv-loop μ-loop
 pages-requires c κs = search needs
 
 threes-for-requires : tie.Need-threes-for-requires Inv-loop μ-loop
 threes-for-requires c κs = search needs
-
-mul-first : tie.Need-mul-first Inv-loop μ-loop
-mul-first c = search needs
-
-add-first : tie.Need-add-first Inv-loop μ-loop
-add-first c = search needs
 
 flat-pages-requires : tie.Need-flat-pages-requires Inv-loop μ-loop
 flat-pages-requires c κs = search needs
@@ -83,8 +77,8 @@ read-requires c κs = search needs
 table-of-requires-2 : tie.Need-table-of-requires-2 Inv-loop μ-loop
 table-of-requires-2 c κs = search needs
 
-cast-t18 : tie.Need-cast-t18 Inv-loop μ-loop
-cast-t18 c =
+cast-t16 : tie.Need-cast-t16 Inv-loop μ-loop
+cast-t16 c =
     let s = c .before .before .before .before .before .before .before .before .before .before .before .before .before .before .before .args in
     let h = c .before .before .before .before .before .before .before .before .before .before .before .before .before .before .before .pre in
     let directory = c .before .before .before .before .before .before .before .before .before .before .directory in
@@ -94,8 +88,8 @@ cast-t18 c =
 page-words-requires : tie.Need-page-words-requires Inv-loop μ-loop
 page-words-requires c κs = search needs
 
-mul-t20 : tie.Need-mul-t20 Inv-loop μ-loop
-mul-t20 c =
+mul-t18 : tie.Need-mul-t18 Inv-loop μ-loop
+mul-t18 c =
     let s = c .before .before .before .before .before .before .before .before .before .before .before .before .before .before .before .before .args in
     let h = c .before .before .before .before .before .before .before .before .before .before .before .before .before .before .before .before .pre in
     let directory = c .before .before .before .before .before .before .before .before .before .before .before .directory in
@@ -186,8 +180,6 @@ root-map-spec =
     μ-loop
     pages-requires
     threes-for-requires
-    mul-first
-    add-first
     flat-pages-requires
     directory-requires
     words-of-requires
@@ -200,9 +192,9 @@ root-map-spec =
     table-of-requires
     read-requires
     table-of-requires-2
-    cast-t18
+    cast-t16
     page-words-requires
-    mul-t20
+    mul-t18
     root-row-requires
     returns
     add-next-word
