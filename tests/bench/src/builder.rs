@@ -7,7 +7,7 @@ use second::memory::CURRENT;
 const FIRST_INDEX: u32 = 1;
 const ALL_RIGHTS: u32 = 7;
 /// The last virtual page: no scenario has tables for it.
-const NOWHERE: u32 = (1 << 20) - 256;
+pub const NOWHERE: u32 = (1 << 20) - 256;
 const ROOT: u32 = 256;
 
 /// A call, and the memory just before it.
@@ -99,12 +99,18 @@ impl Builder {
         self.hands.push((0..pages).rev().map(target).collect());
     }
 
-    /// The calls that change nothing of the tree, and last the end of the child.
-    pub fn finish(&mut self, child: u32) {
+    /// What changes nothing of the tree and names no child: a page in hand, written, read and asked for.
+    pub fn access(&mut self) {
         if let Some(&page) = self.hand().last() {
             self.call(12, &[page + 252, 77]);
             self.call(11, &[page + 252]);
+            self.call(8, &[page]);
         }
+    }
+
+    /// The calls that change nothing of the tree, and last the end of the child.
+    pub fn finish(&mut self, child: u32) {
+        self.access();
         self.call(5, &[child, target(0)]);
         self.call(8, &[child]);
         self.call(9, &[child]);

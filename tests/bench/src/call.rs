@@ -20,8 +20,13 @@ pub const NAMES: [&str; 13] = [
     "store",
 ];
 
-/// Judges and does no more: load of an address that is no multiple of 4 is refused with 3 right after the judgement.
+/// Judges and does no more.
 pub const JUDGE: Call = Call { number: 11, arguments: [1, 0, 0, 0, 0] };
+/// What it answers of sound memory.
+pub const JUDGED_SOUND: Answer = Err(3);
+/// An address that is no multiple of 4 is the first thing that load refuses.
+pub const JUDGE_IS: &str =
+    "The judge is the call load of address 1, which is refused with 3 right after the judgement.";
 
 /// A call's number, 0 for format, and its arguments; those that it does not have are 0.
 #[derive(Clone, Copy, Debug)]

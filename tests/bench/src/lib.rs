@@ -3,8 +3,10 @@
 pub mod builder;
 pub mod call;
 pub mod damaged;
+pub mod library;
 pub mod measure;
 pub mod ordinary;
+pub mod painted;
 pub mod report;
 pub mod scenario;
 pub mod table;

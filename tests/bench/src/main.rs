@@ -1,5 +1,6 @@
 //! Measures the proved kernel beside the ordinary version. Exit status 1 where a bar is missed.
 
+use bench::call::JUDGE_IS;
 use bench::report::{Bar, Report};
 use std::process::ExitCode;
 use std::time::Duration;
@@ -14,11 +15,12 @@ fn main() -> ExitCode {
     };
     let report = Report::measure(Duration::from_secs(seconds));
     println!("{}. Times are in nanoseconds: the least of many single calls, the two versions in turn.", processor());
-    println!("The judge is the call load of address 1, which is refused with 3 right after the judgement.\n");
+    println!("{JUDGE_IS}\n");
     if markdown {
         report.short.iter().for_each(|table| print!("{}", table.markdown()));
     } else {
-        report.calls.iter().chain(&report.short).for_each(|table| print!("{}", table.text()));
+        let all = report.calls.iter().chain([&report.stack]).chain(&report.short);
+        all.for_each(|table| print!("{}", table.text()));
     }
     if report.bars.iter().all(Bar::holds) {
         ExitCode::SUCCESS

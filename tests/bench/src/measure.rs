@@ -98,6 +98,11 @@ impl Bench {
         Times { proved, ordinary }
     }
 
+    /// Nanoseconds that reading the clock costs: of two times that differ by no more, neither is known to be the greater.
+    pub fn noise(&self) -> f64 {
+        self.clock.as_nanos() as f64
+    }
+
     pub fn answer(&self, row: Row) -> Answer {
         self.rows[row.0].answer
     }

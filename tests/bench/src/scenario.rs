@@ -1,10 +1,12 @@
 //! Memories to measure on: trees of several shapes, each by a recipe for any number of pages.
 
-use crate::builder::{Builder, Step};
+use crate::builder::{Builder, Step, NOWHERE};
 use second::tree::tree;
 
-const MOST_DEPTH: usize = 8;
+pub const MOST_DEPTH: usize = 8;
 const MOST_THREES: usize = 10;
+/// The words of a table: so many pages a partition with one three can have.
+const TABLE: usize = 64;
 
 /// A tree, the calls that built it and those tried on it.
 pub struct Scenario {
@@ -117,4 +119,30 @@ pub fn broad_few_tables(pages: usize) -> Scenario {
 /// Children without tables.
 pub fn bare(pages: usize) -> Scenario {
     children("bare", pages, 0, 0)
+}
+
+/// A chain down to this level, one three each, on which every call is made: the parent of the last partition is the caller, and has lent it a page. Where
+/// the root is alone it is the caller, and has no child to name.
+pub fn down_to(level: usize) -> Scenario {
+    let mut built = Builder::new(96);
+    for _ in 1..level {
+        let child = built.create();
+        built.prepare(child, 1);
+        let lent = built.left().min(TABLE);
+        (0..lent).for_each(|k| built.lend(child, k));
+        built.enter(child, lent);
+    }
+    let name = "down to a level";
+    if level == 0 {
+        let (whole, refused) = (built.memory.clone(), built.refused(NOWHERE));
+        built.access();
+        built.create();
+        return Scenario { name, steps: built.steps, refused, whole };
+    }
+    let child = built.create();
+    built.prepare(child, 1);
+    built.lend(child, 0);
+    built.lend_again(child, 0);
+    built.create();
+    Scenario::of(name, built, Some(child))
 }

@@ -1,6 +1,6 @@
 //! The ordinary version and the proved kernel do what the independent program of tests/second does: on guided random calls, and on damaged memories.
 
-use bench::call::{Call, JUDGE};
+use bench::call::{Call, JUDGE, JUDGED_SOUND};
 use bench::ordinary::is_sound;
 use second::calls::call;
 use second::damage::wide_damage;
@@ -48,7 +48,7 @@ fn verdicts_on_damaged_memories() {
                 let expected = sound(&changed).is_ok();
                 counts[usize::from(expected)] += 1;
                 assert_eq!(is_sound(&changed), expected);
-                assert_eq!(JUDGE.proved(&mut changed), Err(if expected { 3 } else { 1 }));
+                assert_eq!(JUDGE.proved(&mut changed), if expected { JUDGED_SOUND } else { Err(1) });
             }
         });
     }

@@ -13,9 +13,13 @@ fn tables() {
             assert!(!row[1].is_empty() || !row[5].is_empty(), "{}: {}", table.title, row[0]);
         }
     }
-    assert_eq!(report.bars.len(), 5);
-    for table in report.calls.iter().chain(&report.short) {
+    assert_eq!(report.bars.len(), 6);
+    for table in report.calls.iter().chain([&report.stack]).chain(&report.short) {
         assert!(table.rows.iter().all(|row| row.len() == table.head.len()), "{}", table.title);
         assert!(table.text().lines().count() > table.rows.len() && table.markdown().contains("|---|"));
+    }
+    let wiping = report.short.iter().find(|table| table.title.starts_with("Wiping")).expect("a table");
+    for row in &wiping.rows {
+        assert!([&row[4], &row[8]].iter().all(|ratio| !ratio.starts_with('-')), "{row:?}");
     }
 }

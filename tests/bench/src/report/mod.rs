@@ -4,6 +4,7 @@ mod calls;
 mod damaged;
 mod growth;
 mod guided;
+pub mod stack;
 mod wiping;
 
 use crate::measure::Bench;
@@ -13,6 +14,7 @@ use calls::Calls;
 use damaged::Damages;
 use growth::Growth;
 use guided::Guided;
+use stack::Stack;
 use std::time::Duration;
 use wiping::Wiping;
 
@@ -52,6 +54,8 @@ fn whole(time: f64) -> String {
 pub struct Report {
     /// Each call in each scenario.
     pub calls: Vec<Table>,
+    /// Each function on a tree of each depth.
+    pub stack: Table,
     /// The rest, short enough for a document.
     pub short: Vec<Table>,
     pub bars: Vec<Bar>,
@@ -77,18 +81,22 @@ impl Report {
         let guided = Guided::new(&mut bench);
         let wiping: Vec<_> = scenarios.iter().map(|scenario| Wiping::of(scenario, &mut bench)).collect();
         let damages: Vec<_> = scenarios.iter().map(|scenario| Damages::of(scenario, &mut bench)).collect();
+        let stack = Stack::measure();
         bench.run(time);
         let mut short = vec![calls::summary(&calls, &bench)];
         short.push(guided.table(&bench));
         short.extend(growth.tables(&bench));
         short.push(wiping::table(&wiping, &bench));
         short.push(damaged::table(&damages, &bench));
+        short.push(stack.summary());
         let figures = calls::figures(&calls, &bench).chain(guided.figures(&bench));
         let mut bars = vec![Bar::new("a call over the ordinary version's", MOST, figures)];
         bars.extend(growth.bars(&bench));
         bars.push(damaged::bar(&damages, &bench));
+        bars.push(stack.bar());
         short.push(verdicts(&bars));
-        Report { calls: calls.iter().map(|calls| calls.table(&bench)).collect(), short, bars }
+        let calls = calls.iter().map(|calls| calls.table(&bench)).collect();
+        Report { calls, stack: stack.table(), short, bars }
     }
 }
 

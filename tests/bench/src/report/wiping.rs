@@ -3,7 +3,7 @@
 use super::ratio;
 use crate::builder::Step;
 use crate::call::JUDGE;
-use crate::measure::{Bench, Row, Times};
+use crate::measure::{Bench, Row};
 use crate::scenario::{kernel_pages, Scenario};
 use crate::table::Table;
 
@@ -25,13 +25,14 @@ impl Wiped {
         }
     }
 
-    /// For each page, with all else that the call does after the judgement.
+    /// For each page, with all else that the call does after the judgement. A ratio only where both differences are above the clock's noise.
     fn cells(&self, bench: &Bench) -> [String; 4] {
         let (call, judge) = (bench.times(self.call), bench.times(self.judge));
-        let page = |call: f64, judge: f64| (call - judge) / self.pages as f64;
-        let times = Times { proved: page(call.proved, judge.proved), ordinary: page(call.ordinary, judge.ordinary) };
-        let [proved, ordinary] = [times.proved, times.ordinary].map(|time| format!("{time:.1}"));
-        [self.pages.to_string(), proved, ordinary, ratio(times.ratio())]
+        let [proved, ordinary] = [call.proved - judge.proved, call.ordinary - judge.ordinary];
+        let known = proved.min(ordinary) > bench.noise();
+        let share = if known { ratio(proved / ordinary) } else { String::new() };
+        let page = |time: f64| format!("{:.1}", time / self.pages as f64);
+        [self.pages.to_string(), page(proved), page(ordinary), share]
     }
 }
 

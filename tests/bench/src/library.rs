@@ -1,0 +1,86 @@
+//! The library's functions by their addresses, called with what they take and nothing of Rust's in between.
+
+use crate::call::Call;
+use crate::painted::{self, Called, Function};
+
+extern "C" {
+    fn tumashqin_format();
+    fn tumashqin_create_partition();
+    fn tumashqin_delete_partition();
+    fn tumashqin_add_vaddr();
+    fn tumashqin_remove_vaddr();
+    fn tumashqin_page_count();
+    fn tumashqin_prepare();
+    fn tumashqin_collect();
+    fn tumashqin_mapped_in_child();
+    fn tumashqin_enter();
+    fn tumashqin_leave();
+    fn tumashqin_load();
+    fn tumashqin_store();
+    fn tumashqin_write_record();
+    fn tumashqin_record_refusal();
+    fn tumashqin_record_begin();
+    fn tumashqin_record_end();
+}
+
+/// By number; format stands at 0.
+const CALLS: [Function; 13] = [
+    tumashqin_format,
+    tumashqin_create_partition,
+    tumashqin_delete_partition,
+    tumashqin_add_vaddr,
+    tumashqin_remove_vaddr,
+    tumashqin_page_count,
+    tumashqin_prepare,
+    tumashqin_collect,
+    tumashqin_mapped_in_child,
+    tumashqin_enter,
+    tumashqin_leave,
+    tumashqin_load,
+    tumashqin_store,
+];
+
+/// The record's readers.
+pub const READERS: [(&str, Function); 3] = [
+    ("record refusal", tumashqin_record_refusal),
+    ("record begin", tumashqin_record_begin),
+    ("record end", tumashqin_record_end),
+];
+
+/// A call; its answer is the refusal, or the word where there is none.
+pub fn call(call: &Call, words: &mut [u32]) -> (Result<u32, u32>, usize) {
+    let [a, b, c, d, e] = call.arguments.map(|argument| argument as usize);
+    // The words are lent for the call alone, and each call takes words and any numbers.
+    let Called { answer, stack } = unsafe {
+        painted::call(CALLS[call.number as usize], [words.as_mut_ptr() as usize, words.len(), a, b, c, d, e])
+    };
+    let (refusal, word) = match call.number {
+        0 => (answer as u32, 0),
+        _ => ((answer >> 32) as u32, answer as u32),
+    };
+    (if refusal == 0 { Ok(word) } else { Err(refusal) }, stack)
+}
+
+/// Writes the record; its answer is 0 or the refusal.
+pub fn write_record(words: &[u32], revision: &[u8], out: &mut [u8]) -> (u32, usize) {
+    let slices = [
+        words.as_ptr() as usize,
+        words.len(),
+        revision.as_ptr() as usize,
+        revision.len(),
+        out.as_mut_ptr() as usize,
+        out.len(),
+        0,
+    ];
+    // The three slices are lent for the call alone, and out is no part of the others.
+    let Called { answer, stack } = unsafe { painted::call(tumashqin_write_record, slices) };
+    (answer as u32, stack)
+}
+
+/// One of the record's readers.
+pub fn read(reader: Function, bytes: &[u8]) -> (u32, usize) {
+    // The bytes are lent for the call alone, and a reader takes any bytes.
+    let Called { answer, stack } =
+        unsafe { painted::call(reader, [bytes.as_ptr() as usize, bytes.len(), 0, 0, 0, 0, 0]) };
+    (answer as u32, stack)
+}

@@ -1,0 +1,51 @@
+//! The stack that the library takes: how it is measured, and its bar, which is of the archive and not of the machine.
+
+use bench::painted::{call, Function};
+use bench::report::stack::Stack;
+use bench::scenario::{down_to, MOST_DEPTH};
+use second::tree::tree;
+use std::hint::black_box;
+
+extern "C" fn seventh(_: usize, _: usize, _: usize, _: usize, _: usize, _: usize, last: usize) -> usize {
+    last
+}
+
+extern "C" fn kibibyte() -> u8 {
+    black_box([1; 1024])[7]
+}
+
+/// The function at an address.
+fn function(address: *const ()) -> Function {
+    unsafe { std::mem::transmute(address) }
+}
+
+#[test]
+fn painted() {
+    let called = unsafe { call(function(seventh as *const ()), [1, 2, 3, 4, 5, 6, 7]) };
+    assert_eq!(called.answer, 7);
+    assert!(called.stack < 128, "{}", called.stack);
+    let called = unsafe { call(function(kibibyte as *const ()), [0; 7]) };
+    assert!((1024..4096).contains(&called.stack), "{}", called.stack);
+}
+
+/// Every call that is measured is made on a tree as deep as its column says, and is there from the first child on.
+#[test]
+fn depths() {
+    for depth in 0..=MOST_DEPTH {
+        let scenario = down_to(depth);
+        let passing: Vec<_> = (1..=12).filter_map(|number| scenario.last(number)).collect();
+        assert_eq!(passing.len(), if depth == 0 { 4 } else { 12 });
+        assert_eq!(scenario.refused.len(), 12);
+        for step in passing.into_iter().chain(&scenario.refused) {
+            assert_eq!(tree(&step.before).iter().map(|node| node.depth).max(), Some(depth), "{:?}", step.call);
+        }
+    }
+}
+
+#[test]
+fn bar() {
+    let stack = Stack::measure();
+    let bar = stack.bar();
+    assert!(bar.holds(), "{} KiB in {}", bar.figure, bar.place);
+    assert!((1..=MOST_DEPTH).all(|depth| stack.most(depth - 1) < stack.most(depth)), "a level takes stack");
+}
