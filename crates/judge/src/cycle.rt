@@ -1,11 +1,8 @@
 // "Judging a partition asks the same of its children, and judging its children asks it of each partition: the depth left falls."
 use crate::children::next_child;
-use crate::marks::mark_kernel;
-use crate::partitions::tables_test;
+use crate::partitions::judge_alone;
 use crate::rows::next_word;
 use crate::rows::table_of;
-use crate::tally::tally;
-use forms::forms_test;
 use pages::PhysicalPage;
 use pages::directory;
 use pages::least;
@@ -21,8 +18,7 @@ ghost use Rattle.soundness.specs.Test.{own};
 ghost use Rattle.judging.specs.Quick.{partitionTest};
 ghost use Rattle.pages.specs.Width.{Width};
 
-// A partition with left levels below it. Its pages are marked before all is asked of it: where the answer is no, the marks are not looked at. Each child has
-// kernel pages, so that where none are due there is no child to look for.
+// A partition with left levels below it. Each child has kernel pages, so that where none are due there is no child to look for.
 pub fn judge_partition(b: u32, m: &[u32], seen: &mut [u8], d: PhysicalPage, left: u32) -> bool
     requires { ⌜ Width b ⌝ }
     ensures { λ r.
@@ -31,17 +27,8 @@ pub fn judge_partition(b: u32, m: &[u32], seen: &mut [u8], d: PhysicalPage, left
         ≡ answer r (now (seen .exit))
         ⌝ }
 {
-    if !forms_test(b, m, d) {
-        return false;
-    }
-    if !mark_kernel(b, m, seen, d) {
-        return false;
-    }
-    let t = tally(b, m, seen, d);
-    if !t.marked {
-        return false;
-    }
-    if !tables_test(b, m, d, t.mapped, t.shut, t.due) {
+    let t = judge_alone(b, m, seen, d);
+    if !t.passed {
         return false;
     }
     if t.due == 0 {

@@ -1,18 +1,24 @@
-// What a partition is asked of its tables, once they are swept.
+// What a partition is asked by itself: of its own pages, and of its tables once they are swept.
 use crate::cells::cells_test;
+use crate::marks::mark_kernel;
 use crate::tally::lent_count;
+use crate::tally::tally;
+use forms::forms_test;
 use pages::PhysicalPage;
 use pages::mapping;
 use pages::parent;
 use pages::read_word;
 ghost use mathlib.Core.Path.{_≡_};
-ghost use mathlib.Core.Bool.{_&&_, _||_};
+ghost use mathlib.Core.Bool.{true, cond, _&&_, _||_};
+ghost use mathlib.Core.Option.{none};
 ghost use lib.Dec.{eqb};
 ghost use Rattle.walk.specs.Finite.{all};
+ghost use Rattle.walk.specs.Marks.{answer, marks};
 ghost use Rattle.memory.specs.Words.{word};
 ghost use Rattle.memory.specs.Partition;
 ghost use Rattle.memory.specs.Counts.{tabled};
-ghost use Rattle.judging.specs.Quick.{cell, lentCount};
+ghost use Rattle.soundness.specs.Test.{own};
+ghost use Rattle.judging.specs.Quick.{cell, dueCount, lentCount, partitionTest};
 ghost use Rattle.pages.specs.Width.{Width};
 
 // "conversely each lent page is mapped in that child once": the parent of d lends it n pages.
@@ -56,4 +62,45 @@ pub fn tables_test(b: u32, m: &[u32], d: PhysicalPage, mapped: u32, shut: u32, d
         return false;
     }
     cells_test(b, m, d)
+}
+
+// Whether a partition passed its test and each of its pages could be marked; and where they did, the kernel pages of its children.
+pub struct Alone {
+    pub passed: bool,
+    pub due: u64,
+}
+
+// A partition without its children. Its pages are marked before all is asked of it: where the answer is no, the marks are not looked at.
+pub fn judge_alone(b: u32, m: &[u32], seen: &mut [u8], d: PhysicalPage) -> Alone
+    requires { ⌜ Width b ⌝ }
+    ensures { λ r.
+        ⌜
+        (cond (partitionTest b (now (m .entry)) (d .0)) (marks (now (seen .entry)) (own b (now (m .entry)) (d .0))) none
+        ≡ answer (r .passed) (now (seen .exit)))
+        × (r .passed ≡ true → r .due ≡ dueCount b (now (m .entry)) (d .0))
+        ⌝ }
+{
+    if !forms_test(b, m, d) {
+        return Alone {
+            passed: false,
+            due: 0,
+        };
+    }
+    if !mark_kernel(b, m, seen, d) {
+        return Alone {
+            passed: false,
+            due: 0,
+        };
+    }
+    let t = tally(b, m, seen, d);
+    if !t.marked {
+        return Alone {
+            passed: false,
+            due: 0,
+        };
+    }
+    Alone {
+        passed: tables_test(b, m, d, t.mapped, t.shut, t.due),
+        due: t.due,
+    }
 }

@@ -1,7 +1,8 @@
 // "The tree is at most 8 below the root; current is in it." and "Pages 1 to N−1 are each in exactly one hand or one kernel use."
 use crate::children::child_at;
 use crate::children::child_of;
-use crate::cycle::judge_partition;
+use crate::cycle::judge_children;
+use crate::partitions::judge_alone;
 use forms::virtual_address;
 use pages::PhysicalPage;
 use pages::parent;
@@ -12,6 +13,7 @@ ghost use Prim.Native.Nat.{_-_};
 ghost use lib.Dec.{eqb};
 ghost use lib.ListN.{length, getD};
 ghost use Rattle.walk.specs.Finite.{from, all};
+ghost use Rattle.walk.specs.Marks.{answer};
 ghost use Rattle.walk.specs.Walk as W;
 ghost use Rattle.memory.specs.Geometry.{mostDepth};
 ghost use Rattle.memory.specs.Partition.{pages};
@@ -35,6 +37,26 @@ pub fn all_marked(seen: &[u8]) -> bool
     true
 }
 
+// The root, with eight levels below it, as any partition is judged. judge_alone has two callers so that it stays a function when it is compiled: its part of
+// the stack is then taken once, and not at each level of the tree.
+pub fn judge_root(b: u32, m: &[u32], seen: &mut [u8]) -> bool
+    requires { ⌜ Width b ⌝ }
+    ensures { λ r.
+        ⌜
+        W.judge (children b (now (m .entry))) (own b (now (m .entry))) (partitionTest b (now (m .entry))) mostDepth (now (seen .entry)) 1
+        ≡ answer r (now (seen .exit))
+        ⌝ }
+{
+    let t = judge_alone(b, m, seen, PhysicalPage(1));
+    if !t.passed {
+        return false;
+    }
+    if t.due == 0 {
+        return true;
+    }
+    judge_children(b, m, seen, PhysicalPage(1), 8)
+}
+
 // The tree below the root, walked once: every partition passes its test, and every page is used once. seen has no mark at first.
 pub fn tree_test(b: u32, m: &[u32], seen: &mut [u8]) -> bool
     requires { ⌜ Width b ⌝ }
@@ -45,7 +67,7 @@ pub fn tree_test(b: u32, m: &[u32], seen: &mut [u8]) -> bool
         ≡ judged b (now (m .entry)) (W.judge (children b (now (m .entry))) (own b (now (m .entry))) (partitionTest b (now (m .entry))) mostDepth (now (seen .entry)) 1)
         ⌝ }
 {
-    if !judge_partition(b, m, seen, PhysicalPage(1), 8) {
+    if !judge_root(b, m, seen) {
         return false;
     }
     all_marked(seen)

@@ -1,6 +1,6 @@
 -- The walk over the tree, and whether current is in it, in the code's terms. Assumes nothing.
-use mathlib.Core.Path.{_≡_, refl, sym, ap, _∙_}
-use mathlib.Core.Bool.{Bool, true, false, not, _&&_}
+use mathlib.Core.Path.{_≡_, refl, sym, ap, _∙_, subst}
+use mathlib.Core.Bool.{Bool, true, false, cond, not, _&&_}
 use mathlib.Core.List.{List, [], _∷_}
 use mathlib.Core.Logic.{_≢_}
 use mathlib.Core.Option.{Option, none, some}
@@ -9,7 +9,7 @@ use native.Mathlib.Omega.{arith}
 use lib.Dec.{eqb}
 use borrow.Author.Tests.{eq-eqb, ne-eqb}
 use Rattle.walk.specs.Lists.{sumOf}
-use Rattle.walk.specs.Marks.{Seen, each, each-done, marks}
+use Rattle.walk.specs.Marks.{Seen, each, each-done, marks, answer}
 use Rattle.walk.specs.Walk as W
 use Rattle.memory.specs.Words.{word}
 use Rattle.memory.specs.Partition.{parent, threes, tableFor}
@@ -22,13 +22,41 @@ unfolding sumOf
 none-summed f [] e = refl
 none-summed f (c ∷ l) e = absurd (omega arith)
 
--- where the pages of d cannot be marked, it is refused whatever its test says
-pub judge-unmarked : (kids own : ℕ → List ℕ) (ok : ℕ → Bool) (k : ℕ) (s : Seen) (d : ℕ) → marks s (own d) ≡ none → W.judge kids own ok k s d ≡ none
-judge-unmarked kids own ok k s d e = go (ok d) refl
+-- ---- a partition without its children: x is what its test says, o what marking its pages comes to
+
+pub alone-bad : {x : Bool} (o : Option Seen) → x ≡ false → cond x o none ≡ none
+alone-bad o e = ap (λ (y : Bool). cond y o none) e
+
+pub alone-unmarked : (x : Bool) {o : Option Seen} → o ≡ none → cond x o none ≡ none
+alone-unmarked true e = e
+alone-unmarked false e = refl
+
+-- y is the code's answer to the test, t the marks
+pub alone-marked : {x y : Bool} {o : Option Seen} (t : Seen) → y ≡ x → o ≡ some t → cond x o none ≡ answer y t
+alone-marked {x} {y} {o} t e q = ap (λ (z : Bool). cond z o none) (sym e) ∙ go y
   where
-    go : (t : Bool) → ok d ≡ t → W.judge kids own ok k s d ≡ none
-    go true q = W.judge-stop kids own ok k s d q e
-    go false q = W.judge-bad kids own ok k s d q
+    go : (z : Bool) → cond z o none ≡ answer z t
+    go true = q
+    go false = refl
+
+-- then with them
+module _ (kids own : ℕ → List ℕ) (ok : ℕ → Bool) (k : ℕ) (s : Seen) (d : ℕ) where
+  pub alone-no : cond (ok d) (marks s (own d)) none ≡ none → W.judge kids own ok k s d ≡ none
+  alone-no e = go (ok d) refl
+    where
+      go : (x : Bool) → ok d ≡ x → W.judge kids own ok k s d ≡ none
+      go true q = W.judge-stop kids own ok k s d q (subst (λ (x : Bool). cond x (marks s (own d)) none ≡ none) q e)
+      go false q = W.judge-bad kids own ok k s d q
+
+  pub alone-yes : (t : Seen) → cond (ok d) (marks s (own d)) none ≡ some t → W.judge kids own ok k s d ≡ W.judges kids own ok k t (kids d)
+  alone-yes t e = go (ok d) refl
+    where
+      go : (x : Bool) → ok d ≡ x → W.judge kids own ok k s d ≡ W.judges kids own ok k t (kids d)
+      go true q = W.judge-go kids own ok k s d t q (subst (λ (x : Bool). cond x (marks s (own d)) none ≡ some t) q e)
+      go false q =
+          let n : none ≡ some t = subst (λ (x : Bool). cond x (marks s (own d)) none ≡ some t) q e in
+          let z : _≡_ {A = ℕ} 0 1 = cc in
+          absurd (omega arith)
 
 module _ (b : ℕ) (m : List ℕ) where
   -- where the children of d have no kernel pages there are none, and nothing is to be done for each

@@ -11,7 +11,7 @@ use borrow.Author.Tests.{not-true, not-false}
 use Rattle.walk.specs.Finite.{from}
 use Rattle.walk.specs.Marks.{passed, failed, each}
 use Rattle.walk.specs.Walk as W
-use Rattle.walk.specs.Walk.{judge-bad, judge-go, child-none, child-next}
+use Rattle.walk.specs.Walk.{child-none, child-next}
 use Rattle.memory.specs.Geometry.{pageWords, pageOf}
 use Rattle.memory.specs.Words.{page}
 use Rattle.memory.specs.Partition.{directory, shadow1, mapping, lent}
@@ -20,10 +20,7 @@ use Rattle.soundness.specs.Test.{own}
 use Rattle.judging.specs.Quick.{partitionTest}
 use Rattle.judge.specs.Run.{run, marking}
 use Rattle.judge.specs.Rows.{used, childWords}
-use Rattle.judge.proofs.Laws.Tree.{judge-unmarked, no-child}
-use Rattle.judge.proofs.Laws.Marks.{own-no, own-yes}
-use Rattle.judge.proofs.Laws.Order.{unformed, few, tested}
-use Rattle.forms.proofs.Laws.Tests.{yes, no}
+use Rattle.judge.proofs.Laws.Tree.{alone-no, alone-yes, no-child}
 use Rattle.judge.proofs.Laws.Search.{next-low, next-high, next-here}
 use Rattle.judge.proofs.Laws.Rows.{rowStep, rows-first, rows-next, rows-end}
 use Rattle.judge.proofs.Laws.Sweeps.{childStep, children-run, children-row}
@@ -38,10 +35,7 @@ use Rattle.judge.proofs.cycle.judge_partition.Reads as judge-partition
 use Rattle.judge.proofs.cycle.judge_partition.Kinds as judge-partition-kinds
 use Rattle.judge.proofs.cycle.+judge_children+judge_partition.Lts-judge_partition as judge-partition-lts
 use Rattle.judge.proofs.children.next_child.Reads as next-child-reads
-use Rattle.judge.proofs.marks.mark_kernel.Reads as mark-kernel-reads
-use Rattle.judge.proofs.partitions.tables_test.Reads as tables-test-reads
-use Rattle.judge.proofs.tally.tally.Reads as tally-reads
-use Rattle.forms.proofs.forms_test.Reads as forms-test-reads
+use Rattle.judge.proofs.partitions.judge_alone.Reads as judge-alone-reads
 use Rattle.judge.proofs.rows.next_word.Reads as next-word-reads
 use Rattle.judge.proofs.rows.table_of.Reads as table-of-reads
 use Rattle.pages.proofs.parts.words_of.Reads as words-of-reads
@@ -119,14 +113,8 @@ judge-children-claims t = (
 -- what the functions called by judge_partition ask and give
 abbrev judge-partition-claims : ℕ → judge-partition-lts.Claims
 judge-partition-claims t = (
-  forms-test-reads.Asked,
-  forms-test-reads.Learnt,
-  mark-kernel-reads.Asked,
-  mark-kernel-reads.Learnt,
-  tally-reads.Asked,
-  tally-reads.Learnt,
-  tables-test-reads.Asked,
-  tables-test-reads.Learnt,
+  judge-alone-reads.Asked,
+  judge-alone-reads.Learnt,
   judge-children-below t,
   judge-children.Post,
 )
@@ -586,104 +574,41 @@ judge-children-returns-3 t c =
     (childStep (s .b) (s .m .now) (s .d .0) (W.child (children (s .b) (s .m .now)) (own (s .b) (s .m .now)) (partitionTest (s .b) (s .m .now)) (s .left))) (s .d .0)
     (words-of .result .now) e (some (c .before .loop .seen)) (c .loop-test .left) (c .before .loop .inv .3 (s .d .0) e e1)
 
-judge-partition-forms-test-requires : (t : ℕ) → judge-partition-lts.Need-forms-test-requires (judge-partition-claims t) (judge-partition-at t) judge-partition.Post
-judge-partition-forms-test-requires t c κs = search needs
-
-judge-partition-returns : (t : ℕ) → judge-partition-lts.Need-returns (judge-partition-claims t) (judge-partition-at t) judge-partition.Post
-judge-partition-returns t c =
-    let s = c .before .before .before .before .args in
-    judge-bad _ _ _ _ _ _ (unformed (s .b) (s .m .now) (s .d .0) (c .before .forms-test .ensures) (c .if1 .taken))
-
-judge-partition-mark-kernel-requires : (t : ℕ) → judge-partition-lts.Need-mark-kernel-requires (judge-partition-claims t) (judge-partition-at t) judge-partition.Post
-judge-partition-mark-kernel-requires t c κs =
-    let h = c .before .before .before .before .before .pre in
-    let s = c .before .before .before .before .before .args in
-    (h .1, few (s .b) (s .m .now) (s .d .0) (c .before .before .forms-test .ensures) (c .before .if1 .left))
+judge-partition-judge-alone-requires : (t : ℕ) → judge-partition-lts.Need-judge-alone-requires (judge-partition-claims t) (judge-partition-at t) judge-partition.Post
+judge-partition-judge-alone-requires t c κs = search needs
 
 judge-partition-same-length : (t : ℕ) → judge-partition-lts.Need-same-length (judge-partition-claims t) (judge-partition-at t) judge-partition.Post
 judge-partition-same-length t c = search needs
 
-judge-partition-returns-2 : (t : ℕ) → judge-partition-lts.Need-returns-2 (judge-partition-claims t) (judge-partition-at t) judge-partition.Post
-judge-partition-returns-2 t c =
-    let mark-kernel = c .before .before .before .mark-kernel in
-    let s = c .before .before .before .before .before .before .before .before .before .args in
-    judge-unmarked _ _ _ _ _ _
-    (own-no (s .b) (s .m .now) (s .d .0) (s .seen .now) (failed _ (mark-kernel .result) (mark-kernel .last .1 .1 .0) (mark-kernel .ensures) (not-true _ (c .if2 .taken))))
-
-judge-partition-tally-requires : (t : ℕ) → judge-partition-lts.Need-tally-requires (judge-partition-claims t) (judge-partition-at t) judge-partition.Post
-judge-partition-tally-requires t c κs = search needs
+judge-partition-returns : (t : ℕ) → judge-partition-lts.Need-returns (judge-partition-claims t) (judge-partition-at t) judge-partition.Post
+judge-partition-returns t c =
+    let judge-alone = c .before .before .before .before .judge-alone in
+    alone-no _ _ _ _ _ _ (failed _ (judge-alone .result .passed) (judge-alone .last .1 .1 .0) (judge-alone .ensures .0) (not-true _ (c .if1 .taken)))
 
 judge-partition-same-length-2 : (t : ℕ) → judge-partition-lts.Need-same-length-2 (judge-partition-claims t) (judge-partition-at t) judge-partition.Post
 judge-partition-same-length-2 t c = search needs
 
-judge-partition-returns-3 : (t : ℕ) → judge-partition-lts.Need-returns-3 (judge-partition-claims t) (judge-partition-at t) judge-partition.Post
-judge-partition-returns-3 t c =
-    let mark-kernel = c .before .before .before .before .before .before .before .before .before .mark-kernel in
-    let second = c .before .before .before .before .before .before .if2 in
-    let tally = c .before .before .before .before .tally in
-    let s = c .before .before .before .before .before .before .before .before .before .before .before .before .before .before .before .args in
-    let kernel = passed _ (mark-kernel .result) (mark-kernel .last .1 .1 .0) (mark-kernel .ensures) (not-false _ (second .left)) in
-    let hands = failed _ (tally .result .marked) (tally .last .1 .1 .0) (tally .ensures .0) (not-true _ (c .if3 .taken)) in
-    judge-unmarked _ _ _ _ _ _ (own-yes (s .b) (s .m .now) (s .d .0) (s .seen .now) (mark-kernel .last .1 .1 .0) kernel ∙ hands)
-
-judge-partition-tables-test-requires : (t : ℕ) → judge-partition-lts.Need-tables-test-requires (judge-partition-claims t) (judge-partition-at t) judge-partition.Post
-judge-partition-tables-test-requires t c κs = search needs
-
-judge-partition-same-length-3 : (t : ℕ) → judge-partition-lts.Need-same-length-3 (judge-partition-claims t) (judge-partition-at t) judge-partition.Post
-judge-partition-same-length-3 t c = search needs
-
-judge-partition-returns-4 : (t : ℕ) → judge-partition-lts.Need-returns-4 (judge-partition-claims t) (judge-partition-at t) judge-partition.Post
-judge-partition-returns-4 t c =
-    let forms-test = c .before .before .before .before .before .before .before .before .before .before .before .before .before .before .forms-test in
-    let first = c .before .before .before .before .before .before .before .before .before .before .before .before .before .if1 in
-    let tally = c .before .before .before .before .before .before .tally in
-    let s = c .before .before .before .before .before .before .before .before .before .before .before .before .before .before .before .before .before .args in
-    let counts = tally .ensures .1 (not-false _ (c .before .before .if3 .left)) in
-    judge-bad _ _ _ _ _ _ (no (tested (s .b) (s .m .now) (s .d .0) (forms-test .ensures) (first .left) counts (c .before .tables-test .ensures)) (c .if4 .taken))
-
-judge-partition-same-length-4 : (t : ℕ) → judge-partition-lts.Need-same-length-4 (judge-partition-claims t) (judge-partition-at t) judge-partition.Post
-judge-partition-same-length-4 t c = search needs
-
-judge-partition-returns-5 : (t : ℕ) → judge-partition-lts.Need-returns-5 (judge-partition-claims t) (judge-partition-at t) judge-partition.Post
-judge-partition-returns-5 t c =
-    let forms-test = c .before .before .before .before .before .before .before .before .before .before .before .before .before .before .before .before .forms-test in
-    let first = c .before .before .before .before .before .before .before .before .before .before .before .before .before .before .before .if1 in
-    let mark-kernel = c .before .before .before .before .before .before .before .before .before .before .before .before .before .mark-kernel in
-    let second = c .before .before .before .before .before .before .before .before .before .before .if2 in
-    let tally = c .before .before .before .before .before .before .before .before .tally in
-    let third = c .before .before .before .before .if3 in
-    let s = c .before .before .before .before .before .before .before .before .before .before .before .before .before .before .before .before .before .before .before .args in
-    let kernel = passed _ (mark-kernel .result) (mark-kernel .last .1 .1 .0) (mark-kernel .ensures) (not-false _ (second .left)) in
-    let hands = passed _ (tally .result .marked) (tally .last .1 .1 .0) (tally .ensures .0) (not-false _ (third .left)) in
-    let counts = tally .ensures .1 (not-false _ (third .left)) in
-    judge-go _ _ _ _ _ _ (tally .last .1 .1 .0)
-    (yes (tested (s .b) (s .m .now) (s .d .0) (forms-test .ensures) (first .left) counts (c .before .before .before .tables-test .ensures)) (c .before .before .if4 .left))
-    (own-yes (s .b) (s .m .now) (s .d .0) (s .seen .now) (mark-kernel .last .1 .1 .0) kernel ∙ hands) ∙ no-child (s .b) (s .m .now) _ (tally .last .1 .1 .0) (s .d .0)
-    (counts .2) (c .if5 .taken)
+judge-partition-returns-2 : (t : ℕ) → judge-partition-lts.Need-returns-2 (judge-partition-claims t) (judge-partition-at t) judge-partition.Post
+judge-partition-returns-2 t c =
+    let judge-alone = c .before .before .before .before .before .before .judge-alone in
+    let s = c .before .before .before .before .before .before .before .before .before .before .args in
+    let first = c .before .before .if1 in
+    let marked = passed _ (judge-alone .result .passed) (judge-alone .last .1 .1 .0) (judge-alone .ensures .0) (not-false _ (first .left)) in
+    alone-yes _ _ _ _ _ _ (judge-alone .last .1 .1 .0) marked
+    ∙ no-child (s .b) (s .m .now) _ (judge-alone .last .1 .1 .0) (s .d .0) (judge-alone .ensures .1 (not-false _ (first .left))) (c .if2 .taken)
 
 judge-partition-judge-children-requires : (t : ℕ) → judge-partition-lts.Need-judge-children-requires (judge-partition-claims t) (judge-partition-at t) judge-partition.Post
 judge-partition-judge-children-requires t c κs = search needs
 
-judge-partition-same-length-5 : (t : ℕ) → judge-partition-lts.Need-same-length-5 (judge-partition-claims t) (judge-partition-at t) judge-partition.Post
-judge-partition-same-length-5 t c = search needs
+judge-partition-same-length-3 : (t : ℕ) → judge-partition-lts.Need-same-length-3 (judge-partition-claims t) (judge-partition-at t) judge-partition.Post
+judge-partition-same-length-3 t c = search needs
 
-judge-partition-returns-6 : (t : ℕ) → judge-partition-lts.Need-returns-6 (judge-partition-claims t) (judge-partition-at t) judge-partition.Post
-judge-partition-returns-6 t c =
-    let forms-test = c .before .before .before .before .before .before .before .before .before .before .before .before .before .before .before .before .before .before .before .before .forms-test in
-    let first = c .before .before .before .before .before .before .before .before .before .before .before .before .before .before .before .before .before .before .before .if1 in
-    let mark-kernel = c .before .before .before .before .before .before .before .before .before .before .before .before .before .before .before .before .before .mark-kernel in
-    let second = c .before .before .before .before .before .before .before .before .before .before .before .before .before .before .if2 in
-    let tally = c .before .before .before .before .before .before .before .before .before .before .before .before .tally in
-    let third = c .before .before .before .before .before .before .before .before .if3 in
-    let tables-test = c .before .before .before .before .before .before .before .tables-test in
-    let fourth = c .before .before .before .before .before .before .if4 in
-    let s = c .before .before .before .before .before .before .before .before .before .before .before .before .before .before .before .before .before .before .before .before .before .before .before .args in
-    let kernel = passed _ (mark-kernel .result) (mark-kernel .last .1 .1 .0) (mark-kernel .ensures) (not-false _ (second .left)) in
-    let hands = passed _ (tally .result .marked) (tally .last .1 .1 .0) (tally .ensures .0) (not-false _ (third .left)) in
-    let counts = tally .ensures .1 (not-false _ (third .left)) in
-    judge-go _ _ _ _ _ _ (tally .last .1 .1 .0)
-    (yes (tested (s .b) (s .m .now) (s .d .0) (forms-test .ensures) (first .left) counts (tables-test .ensures)) (fourth .left))
-    (own-yes (s .b) (s .m .now) (s .d .0) (s .seen .now) (mark-kernel .last .1 .1 .0) kernel ∙ hands) ∙ c .before .before .judge-children .ensures
+judge-partition-returns-3 : (t : ℕ) → judge-partition-lts.Need-returns-3 (judge-partition-claims t) (judge-partition-at t) judge-partition.Post
+judge-partition-returns-3 t c =
+    let judge-alone = c .before .before .before .before .before .before .before .before .before .before .judge-alone in
+    let first = c .before .before .before .before .before .before .if1 in
+    let marked = passed _ (judge-alone .result .passed) (judge-alone .last .1 .1 .0) (judge-alone .ensures .0) (not-false _ (first .left)) in
+    alone-yes _ _ _ _ _ _ (judge-alone .last .1 .1 .0) marked ∙ c .before .before .judge-children .ensures
 
 pub +judge-children+judge-partition-spec : {M : Type 1} → statement M
 +judge-children+judge-partition-spec =
@@ -730,19 +655,11 @@ pub +judge-children+judge-partition-spec : {M : Type 1} → statement M
     λ t. judge-partition-lts.spec (judge-partition-claims t)
     (judge-partition-at t)
     judge-partition.Post
-    (judge-partition-forms-test-requires t)
-    (judge-partition-returns t)
-    (judge-partition-mark-kernel-requires t)
+    (judge-partition-judge-alone-requires t)
     (judge-partition-same-length t)
-    (judge-partition-returns-2 t)
-    (judge-partition-tally-requires t)
+    (judge-partition-returns t)
     (judge-partition-same-length-2 t)
-    (judge-partition-returns-3 t)
-    (judge-partition-tables-test-requires t)
-    (judge-partition-same-length-3 t)
-    (judge-partition-returns-4 t)
-    (judge-partition-same-length-4 t)
-    (judge-partition-returns-5 t)
+    (judge-partition-returns-2 t)
     (judge-partition-judge-children-requires t)
-    (judge-partition-same-length-5 t)
-    (judge-partition-returns-6 t)
+    (judge-partition-same-length-3 t)
+    (judge-partition-returns-3 t)

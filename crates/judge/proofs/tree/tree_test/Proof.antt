@@ -7,8 +7,8 @@ use borrow.Author.Needs.{needs}
 use Rattle.judge.proofs.tree.tree_test.Statement.{statement}
 use Rattle.judge.proofs.tree.tree_test.Tie as tie
 
-judge-partition-requires : tie.Need-judge-partition-requires
-judge-partition-requires c κs = search needs
+judge-root-requires : tie.Need-judge-root-requires
+judge-root-requires c κs = search needs
 
 same-length : tie.Need-same-length
 same-length c = search needs
@@ -16,8 +16,8 @@ same-length c = search needs
 returns : tie.Need-returns
 returns c =
     let s = c .before .before .before .before .before .before .before .args in
-    let judge-partition = c .before .before .before .judge-partition in
-    judged-no (s .b) (s .m .now) (failed _ (judge-partition .result) (judge-partition .last .1 .1 .0) (judge-partition .ensures) (not-true _ (c .if1 .taken)))
+    let judge-root = c .before .before .before .judge-root in
+    judged-no (s .b) (s .m .now) (failed _ (judge-root .result) (judge-root .last .1 .1 .0) (judge-root .ensures) (not-true _ (c .if1 .taken)))
 
 all-marked-requires : tie.Need-all-marked-requires
 all-marked-requires c κs = search needs
@@ -29,15 +29,15 @@ returns-2 : tie.Need-returns-2
 returns-2 c =
     let s = c .before .before .before .before .before .before .before .before .before .args in
     let h = c .before .before .before .before .before .before .before .before .before .pre in
-    let judge-partition = c .before .before .before .before .before .judge-partition in
+    let judge-root = c .before .before .before .before .before .judge-root in
     c .all-marked .ensures ∙ sym
-    (judged-yes (s .b) (s .m .now) (judge-partition .last .1 .1 .0) (passed _ (judge-partition .result) _ (judge-partition .ensures) (not-false _ (c .before .before .if1 .left))) (judge-partition .kept .1 .1 .0 ∙ h .1))
+    (judged-yes (s .b) (s .m .now) (judge-root .last .1 .1 .0) (passed _ (judge-root .result) _ (judge-root .ensures) (not-false _ (c .before .before .if1 .left))) (judge-root .kept .1 .1 .0 ∙ h .1))
 
 pub tree-test-spec : {M : Type 1} → statement M
 tree-test-spec =
     tie.close
     (tie.spec
-    judge-partition-requires
+    judge-root-requires
     same-length
     returns
     all-marked-requires
