@@ -1,7 +1,7 @@
 -- The words of a sequence: where a call stands and where its words end. Assumes nothing.
 use mathlib.Core.Path.{_≡_, refl, ap, _∙_}
 use mathlib.Core.Logic.{_≢_}
-use mathlib.Core.Bool.{Bool, true, false, cond, _&&_, and-false}
+use mathlib.Core.Bool.{Bool, true, false, cond, _&&_, and-false, false≢true}
 use mathlib.Core.List.{List, [], _∷_}
 use Prim.Native.Nat.{ℕ, zero, suc, _≤_, _<_}
 use native.Mathlib.Omega.{arith}
@@ -28,6 +28,17 @@ module _ (ws : List ℕ) (i : ℕ) where
   pub is-whole : getD ws i 0 ≤ 12 → endAt ws i ≤ length ws → whole ws i ≡ true
   is-whole h k = rw (le-leb (getD ws i 0) 12 h, le-leb (endAt ws i) (length ws) k)
 
+  -- ---- what a whole call gives: its number is known, and its words are there
+
+  parts : (s t : Bool) → (s && t) ≡ true → (s ≡ true) × (t ≡ true)
+  parts true t p = (refl, p)
+  parts false t p = absurd (false≢true p)
+
+  pub whole-parts : whole ws i ≡ true → (getD ws i 0 ≤ 12) × (endAt ws i ≤ length ws)
+  whole-parts w =
+      let p = parts (leb (getD ws i 0) 12) (leb (endAt ws i) (length ws)) w in
+      (leb-true (getD ws i 0) 12 (p .0), leb-true (endAt ws i) (length ws) (p .1))
+
   -- ---- from the end that was found
 
   ended : (t : Bool) {e : ℕ} → e ≡ cond t (endAt ws i) 0 → e ≡ 0 → t ≡ false
@@ -43,18 +54,12 @@ module _ (ws : List ℕ) (i : ℕ) where
   found true p q = (refl, p)
   found false p q = absurd (q p)
 
-  within : (s t : Bool) → (s && t) ≡ true → t ≡ true
-  within true t p = p
-  within false t p = let z : _≡_ {A = ℕ} 0 1 = cc in absurd (omega arith)
-
   module _ {e : ℕ} (p : e ≡ cond (whole ws i) (endAt ws i) 0) (q : e ≢ 0) where
-    pub end-within : e ≤ length ws
-    end-within =
-        let f = found (whole ws i) p q in
-        omega (arith, leb-true (endAt ws i) (length ws) (within (leb (getD ws i 0) 12) (leb (endAt ws i) (length ws)) (f .0)))
+    pub found-whole : whole ws i ≡ true
+    found-whole = found (whole ws i) p q .0
 
-    pub start-within : i < length ws
-    start-within = omega (arith, end-within, found (whole ws i) p q .1)
+    pub end-within : e ≤ length ws
+    end-within = omega (arith, found (whole ws i) p q .1, whole-parts found-whole .1)
 
     pub end-next : (k : ℕ) → callsFrom (suc k) ws i ≡ callAt ws i ∷ callsFrom k ws e
     unfolding callsFrom

@@ -1,2 +1,3 @@
 pub mod Sequence
+pub mod Called
 pub mod Ran

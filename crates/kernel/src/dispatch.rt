@@ -3,15 +3,24 @@ use crate::calls;
 use answers::Answer;
 use answers::pack;
 ghost use mathlib.Core.Path.{_≡_};
-ghost use Prim.Native.Nat.{_<_};
+ghost use mathlib.Core.Bool.{true};
+ghost use Prim.Native.Nat.{_≤_, _<_};
 ghost use lib.ListN.{length, getD};
 ghost use Rattle.rules.specs.Calls.{answer, after};
 ghost use Rattle.answers.specs.Said.{said};
 ghost use Rattle.answers.specs.Packed.{packed};
-ghost use Rattle.kernel.specs.Sequence.{numbered, five, callAt};
+ghost use Rattle.kernel.specs.Sequence.{numbered, five, callAt, whole};
+ghost use Rattle.kernel.specs.Called.{called, calledAnswer, calledAfter};
 
-// The call of number n: 0 is format, 1 to 12 are document 01's. a holds its arguments.
-pub fn by_number(m: &mut [u32], n: u32, a: [u32; 5]) -> Answer
+// What a call by its number answers, or that no call has the number.
+pub enum Called {
+    Answered(Answer),
+    Unknown,
+}
+
+// The call of number n, with its arguments in a.
+fn numbered_call(m: &mut [u32], n: u32, a: [u32; 5]) -> Answer
+    requires { ⌜ n ≤ 12 ⌝ }
     ensures { λ r. ⌜ (said r ≡ answer 6 (now (m .entry)) (numbered n (λ j. getD a j 0)))
         × (now (m .exit) ≡ after 6 (now (m .entry)) (numbered n (λ j. getD a j 0))) ⌝ }
 {
@@ -32,6 +41,16 @@ pub fn by_number(m: &mut [u32], n: u32, a: [u32; 5]) -> Answer
     }
 }
 
+// The call of number n: 0 is format, 1 to 12 are document 01's, and no other number is known. a holds its arguments; what is past them is not read.
+pub fn by_number(m: &mut [u32], n: u32, a: [u32; 5]) -> Called
+    ensures { λ r. ⌜ (called r ≡ calledAnswer (now (m .entry)) n a) × (now (m .exit) ≡ calledAfter (now (m .entry)) n a) ⌝ }
+{
+    if n > 12 {
+        return Called::Unknown;
+    }
+    Called::Answered(numbered_call(m, n, a))
+}
+
 // The five words behind word i: no call has more arguments.
 fn arguments(ws: &[u32], i: usize) -> [u32; 5]
     requires { ⌜ i < length (now ws) ⌝ }
@@ -48,11 +67,11 @@ fn arguments(ws: &[u32], i: usize) -> [u32; 5]
 
 // The call whose number is word i.
 pub fn call(m: &mut [u32], ws: &[u32], i: usize) -> u64
-    requires { ⌜ i < length (now ws) ⌝ }
+    requires { ⌜ whole (now ws) i ≡ true ⌝ }
     ensures { λ r. ⌜ (r ≡ packed (answer 6 (now (m .entry)) (callAt (now (ws .entry)) i)))
         × (now (m .exit) ≡ after 6 (now (m .entry)) (callAt (now (ws .entry)) i)) ⌝ }
 {
     let n = pages::read(ws, i);
     let a = arguments(ws, i);
-    pack(by_number(m, n, a))
+    pack(numbered_call(m, n, a))
 }

@@ -1,7 +1,7 @@
 // The kernel: the open calls, a call by its number, and the run of a sequence.
-pub mod calls;
-pub mod dispatch;
-pub mod sequences;
+mod calls;
+mod dispatch;
+mod sequences;
 
 pub use calls::add_vaddr;
 pub use calls::collect;
@@ -16,6 +16,6 @@ pub use calls::page_count;
 pub use calls::prepare;
 pub use calls::remove_vaddr;
 pub use calls::store;
+pub use dispatch::Called;
 pub use dispatch::by_number;
-pub use dispatch::call;
 pub use sequences::run;

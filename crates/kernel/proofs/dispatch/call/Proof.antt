@@ -1,9 +1,10 @@
 -- `kernel::dispatch::call` meets its contract. The number and the words behind it are the call. Assumes nothing.
 use mathlib.Core.Path.{ap, _∙_}
+use native.Mathlib.Omega.{arith}
 use borrow.Author.Needs.{needs}
 use Rattle.rules.specs.Calls.{answer, after}
 use Rattle.answers.specs.Packed.{packed}
-use Rattle.kernel.proofs.Words.{call-of}
+use Rattle.kernel.proofs.Words.{call-of, whole-parts}
 use Rattle.kernel.proofs.dispatch.call.Statement.{statement}
 use Rattle.kernel.proofs.dispatch.call.Tie as tie
 
@@ -11,10 +12,14 @@ read-requires : tie.Need-read-requires
 read-requires c κs = search needs
 
 arguments-requires : tie.Need-arguments-requires
-arguments-requires c κs = search needs
+arguments-requires c κs =
+    let s = c .before .before .before in
+    omega (arith, whole-parts (s .args .ws .now) (s .args .i) (s .pre) .1)
 
-by-number-requires : tie.Need-by-number-requires
-by-number-requires c κs = search needs
+numbered-call-requires : tie.Need-numbered-call-requires
+numbered-call-requires c κs =
+    let s = c .before .before .before .before .before in
+    omega (arith, c .before .before .read .ensures, whole-parts (s .args .ws .now) (s .args .i) (s .pre) .0)
 
 pack-requires : tie.Need-pack-requires
 pack-requires c κs = search needs
@@ -27,7 +32,7 @@ returns c =
     let read = c .before .before .before .before .before .before .read in
     let arguments = c .before .before .before .before .before .arguments in
     let s = c .before .before .before .before .before .before .before .before .before .args in
-    let r = c .before .before .before .by-number .ensures in
+    let r = c .before .before .before .numbered-call .ensures in
     let e = call-of (s .ws .now) (s .i) (read .ensures) (arguments .ensures) in
     (c .pack .ensures ∙ ap packed (r .0 ∙ ap (λ x. answer 6 (s .m .now) x) e), r .1 ∙ ap (λ x. after 6 (s .m .now) x) e)
 
@@ -37,7 +42,7 @@ call-spec =
     (tie.spec
     read-requires
     arguments-requires
-    by-number-requires
+    numbered-call-requires
     pack-requires
     same-length
     returns)

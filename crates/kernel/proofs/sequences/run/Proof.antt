@@ -4,7 +4,7 @@ use Prim.Native.Nat.{_≤_, _-_}
 use native.Mathlib.Omega.{arith}
 use lib.ListN.{length}
 use borrow.Author.Needs.{needs}
-use Rattle.kernel.proofs.Words.{no-end, start-within, end-within}
+use Rattle.kernel.proofs.Words.{no-end, found-whole, end-within}
 use Rattle.kernel.proofs.Running.{Rest, rest-start, rest-next, rest-full, rest-none}
 use Rattle.kernel.proofs.sequences.run.Statement.{statement}
 use Rattle.kernel.proofs.sequences.run.Tie as tie
@@ -39,7 +39,7 @@ returns c =
 call-requires : tie.Need-call-requires Inv-loop μ-loop
 call-requires c κs =
     let s = c .before .before .before .before .before .before .before .before .args in
-    start-within (s .calls .now) (c .before .before .before .before .loop .i) (c .before .before .end .ensures) (c .before .if1 .left)
+    found-whole (s .calls .now) (c .before .before .before .before .loop .i) (c .before .before .end .ensures) (c .before .if1 .left)
 
 mul-answers : tie.Need-mul-answers Inv-loop μ-loop
 mul-answers c = search needs
