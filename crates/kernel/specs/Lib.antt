@@ -1,3 +1,4 @@
 pub mod Sequence
 pub mod Called
 pub mod Ran
+pub mod Verdict

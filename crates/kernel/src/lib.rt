@@ -1,7 +1,8 @@
-// The kernel: the open calls, a call by its number, and the run of a sequence.
+// The kernel: the open calls, a call by its number, the run of a sequence, and the verdict of a memory.
 mod calls;
 mod dispatch;
 mod sequences;
+mod verdicts;
 
 pub use calls::add_vaddr;
 pub use calls::collect;
@@ -19,3 +20,4 @@ pub use calls::store;
 pub use dispatch::Called;
 pub use dispatch::by_number;
 pub use sequences::run;
+pub use verdicts::verdict;
