@@ -1,5 +1,6 @@
 // "each record is a call number and its arguments": the call of one record.
 use answers::Answer;
+use kernel::Called;
 use kernel::by_number;
 use record::word_in;
 use script::argument;
@@ -37,7 +38,7 @@ fn arguments(bytes: &[u8], i: usize) -> [u32; 5]
     ]
 }
 
-// The call of the record that starts at byte i.
+// The call of the record that starts at byte i. Its number is known, so that the last arm is never taken.
 pub fn step(m: &mut [u32], bytes: &[u8], i: usize) -> Answer
     requires { ⌜ wholeRecord (now bytes) i ≡ true ⌝ }
     ensures { λ r. ⌜ (said r ≡ answer 6 (now (m .entry)) (callAt (now (bytes .entry)) i))
@@ -45,5 +46,9 @@ pub fn step(m: &mut [u32], bytes: &[u8], i: usize) -> Answer
 {
     let n = word_in(bytes, i);
     let a = arguments(bytes, i);
-    by_number(m, n, a)
+    let r = by_number(m, n, a);
+    match r {
+        Called::Answered(x) => x,
+        Called::Unknown => Answer::Done(0),
+    }
 }
