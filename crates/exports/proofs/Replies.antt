@@ -26,5 +26,8 @@ pub packs : {r : ℕ} {a e : Answer} {P : Type 0} → r ≡ packed a → (a ≡ 
 packs r p = (r ∙ ap packed (p .0), p .1)
 
 -- the refusal's number of an answer whose word is 0
+pub refusal-of : {r x n : ℕ} {a : Answer} → r ≡ x / 2 ^ 32 → x ≡ packed a → a ≡ reply n 0 → r ≡ n
+refusal-of {n = n} r x p = r ∙ ap (λ (y : ℕ). y / 2 ^ 32) (x ∙ ap packed p) ∙ upper-reply n 0 (omega arith)
+
 pub refuses : {r x n : ℕ} {a : Answer} {P : Type 0} → r ≡ x / 2 ^ 32 → x ≡ packed a → (a ≡ reply n 0) × P → (r ≡ n) × P
-refuses {n = n} r x p = (r ∙ ap (λ (y : ℕ). y / 2 ^ 32) (x ∙ ap packed (p .0)) ∙ upper-reply n 0 (omega arith), p .1)
+refuses r x p = (refusal-of r x (p .0), p .1)

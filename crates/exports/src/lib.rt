@@ -2,3 +2,4 @@
 pub mod calls;
 pub mod halves;
 pub mod records;
+pub mod verdicts;

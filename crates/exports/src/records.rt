@@ -1,9 +1,10 @@
-// The start-up record: the writer, and the reader's three answers. The revision is bytes 12 to 75 of a record that is not refused.
+// The start-up record: the writer, and the reader's four answers.
 use crate::halves::upper;
 use answers::pack;
 ghost use mathlib.Core.Path.{_≡_};
+ghost use lib.ListN.{length, take, drop};
 ghost use Rattle.rules.specs.Row.{first};
-ghost use Rattle.rules.specs.Record.{writerRefusals, afterWriter, readerRefusal, recordBegin, recordEnd};
+ghost use Rattle.rules.specs.Record.{writerRefusals, afterWriter, readerRefusal, recordBegin, recordEnd, revisionOf};
 
 // The record of the memory, written at the start of `out`: 0, or the refusal.
 #[no_mangle]
@@ -36,4 +37,14 @@ pub extern "C" fn tumashqin_record_end(bytes: &[u8]) -> u32
     ensures { λ r. ⌜ r ≡ recordEnd (now (bytes .entry)) ⌝ }
 {
     record::record_end(bytes)
+}
+
+// How many bytes the revision has that is handed back: 64, or 0 exactly where the record is refused. They are the bytes from byte 12 on.
+// A C function cannot return a part of a slice, so that the part is told by its length.
+#[no_mangle]
+pub extern "C" fn tumashqin_record_revision_length(bytes: &[u8]) -> usize
+    ensures { λ r. ⌜ (r ≡ length (revisionOf (now (bytes .entry)))) × (revisionOf (now (bytes .entry)) ≡ take r (drop 12 (now (bytes .entry)))) ⌝ }
+{
+    let part = record::revision(bytes);
+    part.len()
 }
