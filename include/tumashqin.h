@@ -108,13 +108,15 @@ uint64_t tumashqin_load(const uint32_t *words, size_t length, uint32_t address);
 /* 12. Writes the word at the address. Refusals: DAMAGED, ADDRESS, UNMAPPED, KERNEL, RIGHTS (write). */
 uint64_t tumashqin_store(uint32_t *words, size_t length, uint32_t address, uint32_t word);
 
+/* The verdict of a memory: 0 where it is sound, else DAMAGED. Every call but format asks this first. */
+uint32_t tumashqin_verdict(const uint32_t *words, size_t length);
+
 /* Writes the start-up record of a memory to the first 76 bytes of `out`, of which there are 76 or more; bytes past 76 stay. `revision` has 64
  * bytes or more, and the first 64 count. Answers 0, or DAMAGED or SHORT. */
 uint32_t tumashqin_write_record(const uint32_t *words, size_t length, const uint8_t *revision, size_t revision_length, uint8_t *out,
                                 size_t out_length);
 
-/* Whether the bytes begin with a record: 0, or SHORT or MAGIC. Bytes past 76 are ignored. Of a record that is not refused, the revision is the
- * 64 bytes from `bytes + TUMASHQIN_REVISION_AT` on. */
+/* Whether the bytes begin with a record: 0, or SHORT or MAGIC. Bytes past 76 are ignored. */
 uint32_t tumashqin_record_refusal(const uint8_t *bytes, size_t length);
 
 /* The record's begin, or 0 where it is refused. */
@@ -122,6 +124,24 @@ uint32_t tumashqin_record_begin(const uint8_t *bytes, size_t length);
 
 /* The record's end, or 0 where it is refused. */
 uint32_t tumashqin_record_end(const uint8_t *bytes, size_t length);
+
+/* How many bytes the record's revision has: 64, or 0 exactly where the record is refused. They are those from byte 12 on. */
+size_t tumashqin_record_revision_length(const uint8_t *bytes, size_t length);
+
+/* A part of the caller's bytes. */
+struct tumashqin_part {
+    const uint8_t *bytes;
+    size_t length;
+};
+
+/* The record's revision as a part of the caller's bytes: an empty part, at their start, exactly where the record is refused. */
+static inline struct tumashqin_part tumashqin_record_revision(const uint8_t *bytes, size_t length)
+{
+    struct tumashqin_part part = {bytes, tumashqin_record_revision_length(bytes, length)};
+    if (part.length > 0)
+        part.bytes += TUMASHQIN_REVISION_AT;
+    return part;
+}
 
 #ifdef __cplusplus
 }

@@ -26,6 +26,6 @@ mod raw;
 mod record;
 mod refusal;
 
-pub use memory::{Memory, EXECUTE, PAGE_WORDS, READ, WRITE};
-pub use record::{read_record, record_begin, record_end, Record, RECORD_BYTES, REVISION_BYTES};
+pub use memory::{verdict, Memory, EXECUTE, PAGE_WORDS, READ, WRITE};
+pub use record::{read_record, record_begin, record_end, revision, Record, RECORD_BYTES, REVISION_BYTES};
 pub use refusal::Refusal;

@@ -13,6 +13,13 @@ pub const WRITE: u32 = 2;
 /// The right to execute a page.
 pub const EXECUTE: u32 = 4;
 
+/// The verdict of any words: whether they are sound. Every call but [`Memory::format`] asks this first.
+///
+/// Refusal: Damaged.
+pub fn verdict(words: &[u32]) -> Result<(), Refusal> {
+    done(unsafe { raw::tumashqin_verdict(words.as_ptr(), words.len()) })
+}
+
 /// A memory: lent words, and the calls on them.
 ///
 /// The caller of a call is the current partition. Addresses are virtual, in the caller; a target is one in the child, and a child is
@@ -41,6 +48,13 @@ impl<'a> Memory<'a> {
     /// The words, page k at words 64k to 64k+63.
     pub fn words(&self) -> &[u32] {
         self.words
+    }
+
+    /// The [`verdict`] of the words.
+    ///
+    /// Refusal: Damaged.
+    pub fn verdict(&self) -> Result<(), Refusal> {
+        verdict(self.words)
     }
 
     /// Call 1: takes five pages as one group, for descriptor, directory, shadow 1, shadow 2 and list: a new child.

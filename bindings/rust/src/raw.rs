@@ -22,6 +22,7 @@ extern "C" {
     pub fn tumashqin_leave(words: *mut u32, length: usize) -> u64;
     pub fn tumashqin_load(words: *const u32, length: usize, address: u32) -> u64;
     pub fn tumashqin_store(words: *mut u32, length: usize, address: u32, word: u32) -> u64;
+    pub fn tumashqin_verdict(words: *const u32, length: usize) -> u32;
     pub fn tumashqin_write_record(
         words: *const u32,
         length: usize,
@@ -33,4 +34,5 @@ extern "C" {
     pub fn tumashqin_record_refusal(bytes: *const u8, length: usize) -> u32;
     pub fn tumashqin_record_begin(bytes: *const u8, length: usize) -> u32;
     pub fn tumashqin_record_end(bytes: *const u8, length: usize) -> u32;
+    pub fn tumashqin_record_revision_length(bytes: *const u8, length: usize) -> usize;
 }

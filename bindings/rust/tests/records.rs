@@ -1,7 +1,16 @@
 //! The start-up record, written and read back.
-use tumashqin::{read_record, record_begin, record_end, Memory, Record, Refusal, PAGE_WORDS, RECORD_BYTES};
+use tumashqin::{read_record, record_begin, record_end, revision, Memory, Record, Refusal, PAGE_WORDS, RECORD_BYTES};
 
-const REVISION: [u8; 65] = [7; 65];
+/// 1 to 65: the first 64 count.
+const REVISION: [u8; 65] = {
+    let mut bytes = [0; 65];
+    let mut i = 0;
+    while i < 65 {
+        bytes[i] = i as u8 + 1;
+        i += 1;
+    }
+    bytes
+};
 
 /// A record of 20 pages, of which 11 are the root's, with 4 bytes behind it.
 fn written() -> [u8; RECORD_BYTES + 4] {
@@ -17,6 +26,13 @@ fn a_record_is_read_back() {
     assert_eq!(bytes[..4], [0xFE, 0xCA, 0xAD, 0xDE]);
     assert_eq!(bytes[RECORD_BYTES..], [9; 4]);
     assert_eq!(read_record(&bytes), Ok(Record { begin: 256, end: 256 * 12, revision: &REVISION[..64] }));
+    assert_eq!((record_begin(&bytes), record_end(&bytes), revision(&bytes)), (256, 256 * 12, &REVISION[..64]));
+}
+
+#[test]
+fn the_revision_is_a_part_of_the_bytes() {
+    let bytes = written();
+    assert_eq!(revision(&bytes).as_ptr_range(), bytes[12..76].as_ptr_range());
 }
 
 #[test]
@@ -41,6 +57,6 @@ fn the_reader_refuses_and_answers_zeros() {
         [(&good[..75], Refusal::Short), (&wrong_magic, Refusal::Magic), (&begin_above_end, Refusal::Magic)]
     {
         assert_eq!(read_record(bytes), Err(refusal));
-        assert_eq!((record_begin(bytes), record_end(bytes)), (0, 0));
+        assert_eq!((record_begin(bytes), record_end(bytes), revision(bytes)), (0, 0, &[][..]));
     }
 }

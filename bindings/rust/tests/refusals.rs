@@ -1,5 +1,5 @@
 //! Refusals: their numbers, and that a call which refuses changes no word.
-use tumashqin::{Memory, Refusal, PAGE_WORDS};
+use tumashqin::{verdict, Memory, Refusal, PAGE_WORDS};
 
 /// What each of the twelve calls answers, with arguments that a sound memory would take.
 fn all_calls(memory: &mut Memory) -> [Result<u32, Refusal>; 12] {
@@ -34,8 +34,10 @@ fn every_number_is_its_refusals() {
 fn damaged_memory_changes_by_no_call() {
     let mut words = [0; 20 * PAGE_WORDS];
     Memory::format(&mut words).unwrap();
+    assert_eq!(verdict(&words), Ok(()));
     words[0] = 21;
     let before = words;
+    assert_eq!(verdict(&words), Err(Refusal::Damaged));
     assert_eq!(all_calls(&mut Memory::over(&mut words)), [Err(Refusal::Damaged); 12]);
     assert_eq!(words, before);
 }
@@ -45,6 +47,7 @@ fn memory_of_a_wrong_length_changes_by_no_call() {
     for length in [0, 1, 15 * PAGE_WORDS, 16 * PAGE_WORDS + 1, 257 * PAGE_WORDS] {
         let mut words = vec![7; length];
         assert_eq!(Memory::format(&mut words).unwrap_err(), Refusal::Size);
+        assert_eq!(Memory::over(&mut words).verdict(), Err(Refusal::Damaged));
         assert_eq!(all_calls(&mut Memory::over(&mut words)), [Err(Refusal::Damaged); 12]);
         assert_eq!(words, vec![7; length]);
     }
@@ -62,5 +65,6 @@ fn every_other_refusal_changes_no_word() {
     assert_eq!(memory.enter(256), Err(Refusal::Child));
     assert_eq!(memory.add_vaddr(256, 512, 768, 8), Err(Refusal::Rights));
     assert_eq!(memory.leave(), Err(Refusal::Root));
+    assert_eq!(memory.verdict(), Ok(()));
     assert_eq!(memory.words(), before);
 }
