@@ -66,7 +66,7 @@ fn run_parts(m: &mut [u32]) {
     }
 }
 
-// All parts, then the start-up record.
+// All parts, then the verdict and the start-up record.
 fn run_all(m: &mut [u32]) {
     run_parts(m);
     print_records(m);

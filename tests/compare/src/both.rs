@@ -1,10 +1,12 @@
-//! One call on both sides.
+//! One call on both sides, and a verdict.
 
 use crate::proved;
 use crate::tally::Tally;
 use second::calls::{call, Answer};
 use second::cover::ROWS;
 use second::geometry::PAGE_WORDS;
+use second::refusal::DAMAGED;
+use second::sound::sound;
 
 /// Performs a call on the proved kernel's memory and holds it to the second program's answer and words. A flip is a word and a bit
 /// of it that is changed there after the call.
@@ -29,6 +31,14 @@ pub fn follow(
 pub fn perform(proved: &mut [u32], second: &mut [u32], line: &[u32], tally: &mut Tally) -> Result<(), String> {
     let answer = call(second, line[0], &line[1..]).ok_or("no such call")?;
     follow(proved, line, answer, second, None, tally)
+}
+
+/// Whether the words are sound, told by both.
+pub fn verdict(words: &[u32], tally: &mut Tally) -> Result<(), String> {
+    let (said, expected) = (proved::verdict(words), sound(words).map(|()| 0).map_err(|_| DAMAGED));
+    tally.verdicts[usize::from(expected.is_err())] += 1;
+    let difference = || format!("verdict\n  proved {}, second {}", shown(said), shown(expected));
+    (said == expected).then_some(()).ok_or_else(difference)
 }
 
 fn same(proved: &[u32], second: &[u32], said: Answer, answer: Answer) -> Result<(), String> {

@@ -1,6 +1,7 @@
-//! Memories that did not come from calls: whether they are sound is told by a call's answer, which is 1 where they are not.
+//! Memories that did not come from calls: whether they are sound is told by the verdict, and by a call's answer, which is
+//! 1 where they are not.
 
-use crate::both::{follow, perform};
+use crate::both::{follow, perform, verdict};
 use crate::records;
 use crate::tally::Tally;
 use second::calls::{format, found, ARGUMENTS};
@@ -16,14 +17,14 @@ fn judge(mem: &[u32], random: &mut Random, tally: &mut Tally) -> Result<(), Stri
     let (mut proved, mut second) = (mem.to_vec(), mem.to_vec());
     let sentences = broken(mem);
     tally.judged(&sentences);
-    let mut result = Ok(());
+    let mut result = verdict(mem, tally);
     if sentences.is_empty() {
         guide(&mut second, random, 12, |line, answer, after| {
             if result.is_ok() {
                 result = follow(&mut proved, line, answer, after, None, tally);
             }
         });
-    } else {
+    } else if result.is_ok() {
         let number = 1 + random.below(12);
         result = perform(&mut proved, &mut second, &any_call(number, random), tally);
     }
@@ -88,6 +89,7 @@ pub fn other_length(random: &mut Random, tally: &mut Tally) -> Result<(), String
     let length = random.pick(&lengths).unwrap_or(0);
     let mut second: Vec<u32> = (0..length).map(|_| random.draw() as u32).collect();
     let mut proved = second.clone();
+    verdict(&proved, tally).map_err(|text| format!("memory of {length} words: {text}"))?;
     for line in std::iter::once(vec![0]).chain((1..=12).map(|number| any_call(number, random))) {
         perform(&mut proved, &mut second, &line, tally).map_err(|text| format!("memory of {length} words: {text}"))?;
     }

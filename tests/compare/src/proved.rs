@@ -27,6 +27,10 @@ pub fn call(words: &mut [u32], line: &[u32]) -> Answer {
     answer.map_err(Refusal::number)
 }
 
+pub fn verdict(words: &[u32]) -> Answer {
+    tumashqin::verdict(words).map(|()| 0).map_err(Refusal::number)
+}
+
 pub fn write_record(words: &mut [u32], revision: &[u8], out: &mut [u8]) -> Answer {
     Memory::over(words).write_record(revision, out).map(|()| 0).map_err(Refusal::number)
 }

@@ -1,5 +1,6 @@
-//! Start-up records: written on both sides, and read back changed.
+//! Start-up records: written on both sides, and read back changed. The writer's verdict is asked alone, too.
 
+use crate::both::verdict;
 use crate::proved;
 use crate::tally::Tally;
 use second::calls::Answer;
@@ -9,6 +10,7 @@ use second::record::{read, revision, write, LENGTH, REVISION};
 use tumashqin::{read_record, record_begin, record_end, Refusal};
 
 pub fn compare(words: &mut [u32], random: &mut Random, tally: &mut Tally) -> Result<(), String> {
+    verdict(words, tally)?;
     let (given, mut out) = (bytes(REVISION, random), bytes(LENGTH, random));
     let mut expected = out.clone();
     let answer = write(words, &given, &mut expected);
@@ -32,11 +34,8 @@ pub fn compare(words: &mut [u32], random: &mut Random, tally: &mut Tally) -> Res
 
 /// Answer, begin, end and the revision as a part of the bytes.
 fn proved_reading(bytes: &[u8]) -> (Answer, u32, u32, &[u8]) {
-    let (answer, revision) = match read_record(bytes) {
-        Ok(record) => (Ok(0), record.revision),
-        Err(refusal) => (Err(Refusal::number(refusal)), &[][..]),
-    };
-    (answer, record_begin(bytes), record_end(bytes), revision)
+    let answer = read_record(bytes).map(|_| 0).map_err(Refusal::number);
+    (answer, record_begin(bytes), record_end(bytes), tumashqin::revision(bytes))
 }
 
 /// Random bytes, about as many as are needed.

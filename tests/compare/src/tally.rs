@@ -13,6 +13,8 @@ pub struct Tally {
     pub sound: u64,
     pub alone: [u64; 9],
     pub several: u64,
+    /// Verdicts of sound memories, and of others.
+    pub verdicts: [u64; 2],
     /// Scripts replayed by both, good and bad ones.
     pub good_scripts: u64,
     pub bad_scripts: u64,
@@ -34,7 +36,9 @@ impl Tally {
         self.several += other.several;
         self.good_scripts += other.good_scripts;
         self.bad_scripts += other.bad_scripts;
-        for (own, other) in self.alone.iter_mut().zip(other.alone) {
+        for (own, other) in
+            self.alone.iter_mut().chain(&mut self.verdicts).zip(other.alone.iter().chain(&other.verdicts))
+        {
             *own += other;
         }
     }
@@ -45,6 +49,8 @@ impl Tally {
         missing.extend(self.ways.each().filter(|way| way.1 == 0).map(|way| way.0.to_string()));
         let alone = self.alone.iter().zip(1..).filter(|(&count, _)| count == 0);
         missing.extend(alone.map(|(_, sentence)| format!("sentence {sentence} broken alone")));
+        let verdicts = self.verdicts.iter().zip([0, 1]).filter(|(&count, _)| count == 0);
+        missing.extend(verdicts.map(|(_, verdict)| format!("verdict {verdict}")));
         missing
     }
 }
@@ -66,6 +72,8 @@ impl fmt::Display for Tally {
         let alone: Vec<_> =
             self.alone.iter().zip(1..).map(|(count, sentence)| format!("{sentence}: {count}")).collect();
         writeln!(f, "sentences broken alone: {}", alone.join(", "))?;
+        let [sound, damaged] = self.verdicts;
+        writeln!(f, "{} verdicts: {sound} sound, {damaged} damaged", sound + damaged)?;
         if !scripts::built() {
             writeln!(f, "no scripts: target/bin/replay is not built (rt check replay)")?;
         }

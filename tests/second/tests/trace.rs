@@ -47,7 +47,8 @@ fn runs() {
     let output = trace(&["runs"], std::str::from_utf8(&input).unwrap());
     let lines: Vec<_> = output.lines().collect();
     let seven = (2_166_136_261u32 ^ 7).wrapping_mul(16_777_619).to_string();
-    assert_eq!(lines[..6], ["no 2", &seven, &seven, "record 1 18 0 0", "record 1 17 0 0", "no 1"]);
-    assert_eq!(lines[7..9], ["ok 0", "no 14"]);
-    assert_eq!(lines[10..], ["record 0 0 256 2048", "record 17 17 0 0"]);
+    assert_eq!(lines[..4], ["no 2", &seven, &seven, "verdict 1"]);
+    assert_eq!(lines[4..7], ["record 1 18 0 0 0 2166136261", "record 1 17 0 0 0 2166136261", "no 1"]);
+    assert_eq!(lines[8..10], ["ok 0", "no 14"]);
+    assert_eq!(lines[11..], ["verdict 0", "record 0 0 256 2048 64 4045242224", "record 17 17 0 0 0 2166136261"]);
 }

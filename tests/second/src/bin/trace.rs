@@ -7,6 +7,7 @@ use second::geometry::PAGE_WORDS;
 use second::make::make;
 use second::random::Random;
 use second::record;
+use second::refusal::DAMAGED;
 use second::replay::replay;
 use second::sound::{broken, sound};
 use std::io::{self, BufWriter, Read, Write};
@@ -77,8 +78,9 @@ fn print_runs(only_cover: bool, out: &mut impl Write) -> io::Result<()> {
                 lines += &answer.map_or_else(|refusal| format!("no {refusal}\n"), |word| format!("ok {word}\n"));
                 rest = after;
             }
-            lines += &format!("{}\n", hash32(&mem));
+            lines += &format!("{}\n", hash32(mem.iter().copied()));
         }
+        lines += &format!("verdict {}\n", sound(&mem).map_or(DAMAGED, |()| 0));
         lines += &record_lines(&mem);
     }
     if !only_cover {
@@ -89,13 +91,17 @@ fn print_runs(only_cover: bool, out: &mut impl Write) -> io::Result<()> {
     missing.is_empty().then_some(()).ok_or(io::Error::other(format!("not covered: {missing:?}")))
 }
 
-/// What the record's writer refuses, what the reader then refuses, begin and end: with 76 bytes, and with a byte too few.
+/// What the record's writer refuses, what the reader then refuses, begin, end, and the revision's length and hash: with 76
+/// bytes, and with a byte too few. No two bytes of the revision are equal.
 fn record_lines(mem: &[u32]) -> String {
+    let revision = b"ABCDEFGHIJKLMNOPQRSTUVWXYZabcdefghijklmnopqrstuvwxyz0123456789+/";
     let line = |length: usize| {
         let mut bytes = vec![0; length];
-        let written = record::write(mem, &[1; record::REVISION], &mut bytes).err().unwrap_or(0);
+        let written = record::write(mem, revision, &mut bytes).err().unwrap_or(0);
         let record::Extent { answer, begin, end } = record::read(&bytes);
-        format!("record {written} {} {begin} {end}\n", answer.err().unwrap_or(0))
+        let part = record::revision(&bytes);
+        let hash = hash32(part.iter().map(|&byte| u32::from(byte)));
+        format!("record {written} {} {begin} {end} {} {hash}\n", answer.err().unwrap_or(0), part.len())
     };
     line(record::LENGTH) + &line(record::LENGTH - 1)
 }
@@ -110,8 +116,8 @@ fn split_call(words: &[u32]) -> Option<(&[u32], &[u32])> {
 }
 
 /// FNV-1a of 32 bits over whole words.
-fn hash32(mem: &[u32]) -> u32 {
-    mem.iter().fold(2_166_136_261, |hash, word| (hash ^ word).wrapping_mul(16_777_619))
+fn hash32(words: impl Iterator<Item = u32>) -> u32 {
+    words.fold(2_166_136_261, |hash, word| (hash ^ word).wrapping_mul(16_777_619))
 }
 
 fn number(word: &str) -> io::Result<u32> {
