@@ -65,7 +65,7 @@ fn arguments(ws: &[u32], i: usize) -> [u32; 5]
     ]
 }
 
-// The call whose number is word i.
+// The call that stands whole at word i.
 pub fn call(m: &mut [u32], ws: &[u32], i: usize) -> u64
     requires { ⌜ whole (now ws) i ≡ true ⌝ }
     ensures { λ r. ⌜ (r ≡ packed (answer 6 (now (m .entry)) (callAt (now (ws .entry)) i)))
