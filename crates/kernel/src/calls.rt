@@ -60,7 +60,7 @@ pub fn page_count(m: &[u32], child: u32, target: u32) -> Answer
 {
     let b = pages::width();
     let good = judge::is_sound(m);
-    threes::page_count(b, m, good, child, target)
+    counting::page_count(b, m, good, child, target)
 }
 
 // 6.
@@ -70,7 +70,7 @@ pub fn prepare(m: &mut [u32], child: u32, target: u32, first: u32) -> Answer
 {
     let b = pages::width();
     let good = judge::is_sound(m);
-    threes::prepare(b, m, good, child, target, first)
+    preparing::prepare(b, m, good, child, target, first)
 }
 
 // 7.
@@ -80,7 +80,7 @@ pub fn collect(m: &mut [u32], child: u32, target: u32) -> Answer
 {
     let b = pages::width();
     let good = judge::is_sound(m);
-    threes::collect(b, m, good, child, target)
+    collecting::collect(b, m, good, child, target)
 }
 
 // 8.

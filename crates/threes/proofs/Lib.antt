@@ -1,4 +1,3 @@
-pub mod ChainLaws
 pub mod ListLaws
 pub mod DropLaws
 pub mod EffectLaws

@@ -1,10 +1,2 @@
-// The threes of tables of a child: pageCount, prepare, collect.
-pub mod chains;
-pub mod collecting;
-pub mod counting;
+// The threes of tables of a child: where they stand in its roots and its list. prepare and collect use it.
 pub mod lists;
-pub mod preparing;
-
-pub use collecting::collect;
-pub use counting::page_count;
-pub use preparing::prepare;
