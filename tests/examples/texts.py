@@ -1,4 +1,4 @@
-"""Compares the definition of crates/assembly/specs, and the program assemble where it is built, with assembler.py on random good and bad texts.
+"""Compares the definitions of crates/text and crates/assembly, and the program assemble where it is built, with assembler.py on random good and bad texts.
 
   python3 tests/examples/texts.py [COUNT]        # rt check assemble builds the program
 
@@ -48,7 +48,7 @@ def ran(given):
 def main():
     program, rng, seen = Program(), random.Random(1), collections.Counter()
     assembled, said = program.get('assembly', 'Assembled', 'assembled'), program.get('assembly', 'Messages', 'message')
-    names = [bytes(n).decode() for n in program.get('assembly', 'Names', 'names')]
+    names = [bytes(n).decode() for n in program.get('text', 'Names', 'names')]
     assert names == [n for n, _ in CALLS], names
     built = os.path.exists(PROGRAM)
     for k in range(int(sys.argv[1]) if len(sys.argv) > 1 else 2000):

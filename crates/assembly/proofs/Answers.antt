@@ -9,7 +9,7 @@ use borrow.Author.Tests.{lt-ltb, le-ltb}
 use Rattle.memory.specs.Words.{overwrite}
 use Rattle.script.specs.Lines.{Put}
 use Rattle.script.proofs.Puts.{put-same}
-use Rattle.assembly.specs.Text.{lines}
+use Rattle.text.specs.Text.{lines}
 use Rattle.assembly.specs.Assembled.{Result, written, begin, assembled}
 use Rattle.assembly.specs.Told.{told, size, scriptOf}
 use Rattle.assembly.specs.declared.Assembled.{Assembled}

@@ -5,11 +5,11 @@ use mathlib.Core.List.{List, _∷_}
 use Prim.Native.Nat.{ℕ, _≤_, _<_}
 use lib.ListN.{length}
 use borrow.Author.Tests.{eq-eqb, ne-eqb, le-leb, lt-leb}
-use Rattle.assembly.specs.Text.{split}
-use Rattle.assembly.specs.Numbers.{number, isNumber}
-use Rattle.assembly.specs.Lines.{pagesOf}
-use Rattle.assembly.specs.Steps.{part, NextWord}
-use Rattle.assembly.proofs.Cuts.{to-end}
+use Rattle.text.specs.Text.{split}
+use Rattle.text.specs.Numbers.{number, isNumber}
+use Rattle.text.specs.Lines.{pagesOf}
+use Rattle.text.specs.Steps.{part, NextWord}
+use Rattle.text.proofs.Cuts.{to-end}
 
 module _ (w : List ℕ) (ws : List (List ℕ)) where
   more : (length ws ≡ 0 → ⊥) → 0 ≡ pagesOf (w ∷ ws)

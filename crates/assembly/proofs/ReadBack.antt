@@ -16,13 +16,13 @@ use Rattle.rules.specs.Calls.{answers}
 use Rattle.rules.specs.Replay.{records, script, transcript, replayed, replay}
 use Rattle.script.specs.Walk.{goodHeader}
 use Rattle.script.proofs.Heads.{header?, script-is}
-use Rattle.assembly.specs.Text.{lines, words}
-use Rattle.assembly.specs.Numbers.{number, isNumber}
-use Rattle.assembly.specs.Names.{callNumber}
-use Rattle.assembly.specs.Lines.{pagesOf, arguments, recordOf, callsIn, reason}
+use Rattle.text.specs.Text.{lines, words}
+use Rattle.text.specs.Numbers.{number, isNumber}
+use Rattle.text.specs.Names.{callNumber}
+use Rattle.text.specs.Lines.{pagesOf, arguments, recordOf, callsIn, reason}
 use Rattle.assembly.specs.Assembled.{Result, written, unread, tooLong, header, calls, begin, assembled}
 use Rattle.assembly.specs.Meant.{callOn, callsOn, pagesMeant, callsMeant}
-use Rattle.assembly.proofs.Values.{itself}
+use Rattle.text.proofs.Values.{itself}
 use Rattle.assembly.proofs.Reasons.{fine}
 use Rattle.assembly.proofs.Records.{arguments-length}
 use Rattle.assembly.proofs.Words.{four-bytes}

@@ -9,9 +9,9 @@ use lib.Dec.{eqb, ltb}
 use lib.ListN.{length}
 use borrow.Author.Tests.{eq-eqb, ne-eqb, lt-ltb, le-ltb, eqb-false, ltb-false, not-false}
 use Rattle.rules.specs.Replay.{argumentCount}
-use Rattle.assembly.specs.Numbers.{allNumbers}
-use Rattle.assembly.specs.Names.{callNumber}
-use Rattle.assembly.specs.Lines.{reason}
+use Rattle.text.specs.Numbers.{allNumbers}
+use Rattle.text.specs.Names.{callNumber}
+use Rattle.text.specs.Lines.{reason}
 
 row : Bool → Bool → Bool → Bool → Bool → ℕ
 row unknown few many other long = cond unknown 2 (cond few 3 (cond many 4 (cond other 5 (cond long 6 0))))

@@ -14,10 +14,10 @@ use Rattle.rules.specs.Call.{Call}
 use Rattle.rules.specs.Replay.{argumentCount, knownCall, callOf, push, records}
 use Rattle.script.specs.Walk.{wholeRecord, nextRecord, argumentAt, callAt}
 use Rattle.script.proofs.Walks.{known?, whole?}
-use Rattle.assembly.specs.Numbers.{number, isNumber}
-use Rattle.assembly.specs.Names.{names, same, placeFrom, named, callNumber}
-use Rattle.assembly.specs.Lines.{arguments, recordOf}
-use Rattle.assembly.proofs.Values.{itself}
+use Rattle.text.specs.Numbers.{number, isNumber}
+use Rattle.text.specs.Names.{names, same, placeFrom, named, callNumber}
+use Rattle.text.specs.Lines.{arguments, recordOf}
+use Rattle.text.proofs.Values.{itself}
 use Rattle.assembly.proofs.Reasons.{Fine}
 use Rattle.assembly.proofs.Records.{arguments-length}
 use Rattle.assembly.proofs.Words.{word-here, number-here}

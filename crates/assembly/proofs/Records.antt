@@ -10,13 +10,13 @@ use Rattle.memory.proofs.Overwrite.{length-overwrite}
 use Rattle.rules.specs.Bytes.{littleEndian}
 use Rattle.script.specs.Lines.{Put}
 use Rattle.script.proofs.Puts.{put-then, put-same}
-use Rattle.assembly.specs.Text.{split}
-use Rattle.assembly.specs.Numbers.{number, isNumber, allNumbers}
-use Rattle.assembly.specs.Names.{callNumber}
-use Rattle.assembly.specs.Lines.{arguments, recordOf, callsIn, reason}
-use Rattle.assembly.specs.Steps.{part, NextWord, LineRead}
-use Rattle.assembly.proofs.Cuts.{to-end}
-use Rattle.assembly.proofs.Values.{number-here}
+use Rattle.text.specs.Text.{split}
+use Rattle.text.specs.Numbers.{number, isNumber, allNumbers}
+use Rattle.text.specs.Names.{callNumber}
+use Rattle.text.specs.Lines.{arguments, recordOf, callsIn, reason}
+use Rattle.text.specs.Steps.{part, NextWord, LineRead}
+use Rattle.text.proofs.Cuts.{to-end}
+use Rattle.text.proofs.Values.{number-here}
 
 pub overwrite-nil : (m : List ℕ) (i : ℕ) → m ≡ overwrite m i []
 overwrite-nil [] i = refl

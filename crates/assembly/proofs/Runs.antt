@@ -10,11 +10,11 @@ use borrow.Author.Tests.{eq-eqb, ne-eqb}
 use Rattle.memory.specs.Words.{overwrite}
 use Rattle.script.specs.Lines.{Put}
 use Rattle.script.proofs.Puts.{put-then}
-use Rattle.assembly.specs.Text.{before, lines, split, words}
-use Rattle.assembly.specs.Lines.{pagesOf, recordOf, callsIn, reason}
+use Rattle.text.specs.Text.{before, lines, split, words}
+use Rattle.text.specs.Lines.{pagesOf, recordOf, callsIn, reason}
 use Rattle.assembly.specs.Assembled.{Result, written, unread, header, calls, begin}
-use Rattle.assembly.specs.Steps.{part, LineAt, LineRead}
-use Rattle.assembly.proofs.Cuts.{end-at}
+use Rattle.text.specs.Steps.{part, LineAt, LineRead}
+use Rattle.text.proofs.Cuts.{end-at}
 use Rattle.assembly.proofs.Records.{overwrite-nil, put-none}
 
 -- ---- a call's line

@@ -9,9 +9,9 @@ use lib.ListN.{length, getD, length-append}
 use lib.Seq.{getD-append-seam, getD-append-add}
 use Rattle.walk.specs.Reflect.{both}
 use Rattle.rules.specs.Bytes.{littleEndian, wordIn}
-use Rattle.assembly.specs.Numbers.{number, isNumber, allNumbers}
-use Rattle.assembly.specs.Lines.{arguments}
-use Rattle.assembly.proofs.Values.{itself, number?}
+use Rattle.text.specs.Numbers.{number, isNumber, allNumbers}
+use Rattle.text.specs.Lines.{arguments}
+use Rattle.text.proofs.Values.{itself, number?}
 
 -- four bytes are their word
 pub four-bytes : (x : ℕ) → x < 4294967296 → wordIn (littleEndian x) 0 ≡ x

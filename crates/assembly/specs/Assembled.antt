@@ -6,8 +6,8 @@ use lib.Dec.{ltb, eqb}
 use lib.ListN.{length}
 use Rattle.rules.specs.Bytes.{littleEndian}
 use Rattle.rules.specs.Replay.{headerBytes}
-use Rattle.assembly.specs.Text.{lines, words}
-use Rattle.assembly.specs.Lines.{pagesOf, recordOf, callsIn, reason}
+use Rattle.text.specs.Text.{lines, words}
+use Rattle.text.specs.Lines.{pagesOf, recordOf, callsIn, reason}
 
 -- "The result is either a script .. or a line's number and a reason"; of a text that is too long it is neither
 pub data Result : Type 0 where

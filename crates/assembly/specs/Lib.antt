@@ -12,12 +12,7 @@
 -- 5 "not a number below 4294967296", 6 "the script is longer than 4096 bytes" (the line whose record would pass the limit), 7 "no N" (no line has words;
 -- the line's number is the number of lines + 1). Order within a call line: 2, then 3 or 4, then 5, then 6.
 -- Message: `line K: REASON` and a newline; of a text that is too long, only that.
-pub mod Text
-pub mod Numbers
-pub mod Names
-pub mod Lines
 pub mod Assembled
 pub mod Messages
 pub mod Meant
-pub mod Steps
 pub mod Told

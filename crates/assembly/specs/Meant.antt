@@ -6,10 +6,10 @@ use lib.Dec.{eqb}
 use lib.ListN.{length, getD}
 use Rattle.rules.specs.Call.{Call}
 use Rattle.rules.specs.Replay.{callOf}
-use Rattle.assembly.specs.Text.{words}
-use Rattle.assembly.specs.Numbers.{number}
-use Rattle.assembly.specs.Names.{callNumber}
-use Rattle.assembly.specs.Lines.{pagesOf}
+use Rattle.text.specs.Text.{words}
+use Rattle.text.specs.Numbers.{number}
+use Rattle.text.specs.Names.{callNumber}
+use Rattle.text.specs.Lines.{pagesOf}
 
 -- a line's call, if it has words: its first word is the call, its further words are the arguments
 unfoldable pub callOn : List (List ℕ) → List Call

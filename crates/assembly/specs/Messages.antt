@@ -4,7 +4,7 @@ use mathlib.Core.Bool.{cond}
 use Prim.Native.Nat.{ℕ}
 use lib.Dec.{eqb}
 use Rattle.rules.specs.Replay.{decimal}
-use Rattle.assembly.specs.Text.{newline}
+use Rattle.text.specs.Text.{newline}
 use Rattle.assembly.specs.Assembled.{Result, written, unread, tooLong}
 
 -- "N is not one number from 16 to 256"

@@ -1,12 +1,12 @@
 // A call's line: its record, or why it can't be read.
-use crate::names::call_number;
-use crate::numbers::all_numbers;
-use crate::numbers::number;
-use crate::parts::count_words;
-use crate::parts::next_word;
 use record::little_endian;
 use script::argument_count;
 use script::put;
+use text::names::call_number;
+use text::numbers::all_numbers;
+use text::numbers::number;
+use text::parts::count_words;
+use text::parts::next_word;
 ghost use mathlib.Core.Path.{_≡_};
 ghost use mathlib.Core.Bool.{true};
 ghost use mathlib.Core.List.{_∷_};
@@ -14,11 +14,11 @@ ghost use Prim.Native.Nat.{_+_, _*_, _≤_};
 ghost use lib.ListN.{length};
 ghost use Rattle.rules.specs.Bytes.{littleEndian};
 ghost use Rattle.script.specs.Lines.{Put};
-ghost use Rattle.assembly.specs.Text.{split};
-ghost use Rattle.assembly.specs.Numbers.{allNumbers};
-ghost use Rattle.assembly.specs.Lines;
-ghost use Rattle.assembly.specs.Lines.{arguments, recordOf};
-ghost use Rattle.assembly.specs.Steps;
+ghost use Rattle.text.specs.Text.{split};
+ghost use Rattle.text.specs.Numbers.{allNumbers};
+ghost use Rattle.text.specs.Lines;
+ghost use Rattle.text.specs.Lines.{arguments, recordOf};
+ghost use Rattle.text.specs.Steps;
 
 // A word of the script.
 pub fn put_word(out: &mut [u8], at: usize, x: u32) -> usize

@@ -3,9 +3,6 @@ pub mod assembling;
 pub mod buffers;
 pub mod calls;
 pub mod messages;
-pub mod names;
-pub mod numbers;
-pub mod parts;
 
 pub use assembling::assemble;
 pub use assembling::script_length;

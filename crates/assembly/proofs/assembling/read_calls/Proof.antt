@@ -6,7 +6,7 @@ use native.Mathlib.Omega.{arith}
 use lib.ListN.{length, drop}
 use borrow.Author.Needs.{needs}
 use Rattle.assembly.specs.Assembled.{calls}
-use Rattle.assembly.specs.Text.{lines}
+use Rattle.text.specs.Text.{lines}
 use Rattle.assembly.proofs.Runs.{Reading, reading, stops, goes-on, headed}
 use Rattle.assembly.proofs.assembling.read_calls.Statement.{statement}
 use Rattle.assembly.proofs.assembling.read_calls.Tie as tie

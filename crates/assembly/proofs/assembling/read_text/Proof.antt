@@ -5,7 +5,7 @@ use native.Mathlib.Omega.{arith}
 use lib.ListN.{length, drop}
 use borrow.Author.Needs.{needs}
 use Rattle.assembly.specs.Assembled.{begin}
-use Rattle.assembly.specs.Text.{lines}
+use Rattle.text.specs.Text.{lines}
 use Rattle.assembly.proofs.Runs.{blank-line, no-pages, pages, no-lines}
 use Rattle.assembly.proofs.assembling.read_text.Statement.{statement}
 use Rattle.assembly.proofs.assembling.read_text.Tie as tie

@@ -4,7 +4,7 @@ use native.Mathlib.Omega.{arith}
 use borrow.Author.Needs.{needs}
 use Rattle.rules.specs.Bytes.{littleEndian}
 use Rattle.script.proofs.Puts.{put-same}
-use Rattle.assembly.specs.Text.{split}
+use Rattle.text.specs.Text.{split}
 use Rattle.assembly.proofs.Records.{arguments-length, record-put}
 use Rattle.assembly.proofs.Reasons.{fine}
 use Rattle.assembly.proofs.calls.put_record.Statement.{statement}

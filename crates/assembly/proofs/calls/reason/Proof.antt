@@ -5,7 +5,7 @@ use lib.ListN.{length}
 use borrow.Author.Tests.{not-true, not-false}
 use borrow.Author.Needs.{needs}
 use Rattle.rules.specs.Replay.{argumentCount}
-use Rattle.assembly.specs.Text.{split}
+use Rattle.text.specs.Text.{split}
 use Rattle.assembly.proofs.Reasons.{unknown, few, many, others, long, none}
 use Rattle.assembly.proofs.calls.reason.Statement.{statement}
 use Rattle.assembly.proofs.calls.reason.Tie as tie

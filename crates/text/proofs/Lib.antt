@@ -1,0 +1,4 @@
+pub mod Cuts
+pub mod Splits
+pub mod Values
+pub mod Called
