@@ -7,7 +7,7 @@ use native.Mathlib.Nat.{suc-ne-zero}
 use borrow.Author.Tests.{eqb-true}
 use lib.Dec.{eqb}
 use lib.ListN.{length, length-set}
-use Rattle.memory.specs.Geometry.{pageWords, address, mostDepth}
+use Rattle.memory.specs.Geometry.{pageWords, address}
 use Rattle.memory.specs.Words.{fill}
 use Rattle.memory.specs.Entry.{accessible}
 use Rattle.memory.specs.Format.{format}
@@ -34,11 +34,11 @@ module _ (b : ℕ) where
 
   pub length-takePage : (m : List ℕ) (d v : ℕ) → length (takePage b m d v) ≡ length m
   unfolding takePage
-  length-takePage m d v = length-mark (suc mostDepth) 0 _ d v ∙ length-wipe b m _
+  length-takePage m d v = length-mark _ _ _ d v ∙ length-wipe b m _
 
   pub length-returnPage : (m : List ℕ) (d v : ℕ) → length (returnPage b m d v) ≡ length m
   unfolding returnPage
-  length-returnPage m d v = length-mark (suc mostDepth) 1 _ d v ∙ length-wipe b m _
+  length-returnPage m d v = length-mark _ _ _ d v ∙ length-wipe b m _
 
   pub length-takeAll : (m : List ℕ) (d : ℕ) (vs : List ℕ) → length (takeAll b m d vs) ≡ length m
   length-takeAll m d [] = refl
