@@ -167,6 +167,9 @@ TARGET = os.environ.get('CARGO_TARGET_DIR') or os.path.join(HERE, '..', 'second'
 subprocess.run(['cargo', 'build', '--release', '--quiet', '--offline'], cwd=os.path.join(HERE, '..', 'second'), check=True)
 sys.setrecursionlimit(10 ** 6)
 threading.stack_size(1 << 29)
-thread = threading.Thread(target=main)
+done = []
+thread = threading.Thread(target=lambda: done.append(main()))
 thread.start()
 thread.join()
+# an exception ends the thread alone
+sys.exit(0 if done else 1)
