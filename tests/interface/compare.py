@@ -16,6 +16,7 @@ CHANGES = [
     ('header', 'uint32_t page, uint32_t child', 'uint32_t child, uint32_t page'),
     ('header', 'tumashqin_load(const uint32_t', 'tumashqin_load(uint32_t'),
     ('header', 'uint32_t address, uint32_t word)', 'uint32_t address, uint64_t word)'),
+    ('header', 'uint32_t tumashqin_record_end(', 'uint64_t tumashqin_record_end('),
     ('header', 'TUMASHQIN_SHORT = 17', 'TUMASHQIN_SHORT = 19'),
     ('rust', 'fn tumashqin_leave(', 'fn tumashqin_left('),
     ('rust', 'first: u32) -> u64', 'first: u32) -> u32'),
@@ -45,13 +46,14 @@ def matched(pattern, text):
 
 def of_header(text):
     """The functions by name, each as its result and its arguments with their types; and the refusals."""
-    text = re.sub(r'#ifdef __cplusplus.*?#endif', '', bare(text), flags=re.S)
-    text = re.sub(r'static inline [^{}]*\{[^{}]*\}', '', re.sub(r'(?m)^#.*$', '', text))
-    functions, refusals = {}, {}
+    text = re.sub(r'(?m)^#.*$', '', re.sub(r'#ifdef __cplusplus.*?#endif', '', bare(text), flags=re.S))
+    refusals = numbered(re.search(r'enum tumashqin_refusal \{(.*?)\}', text, re.S)[1])
+    found = True
+    while found:
+        text, found = re.subn(r'\{[^{}]*\}', ';', text)
+    functions = {}
     for statement in parts(text, ';'):
-        if statement.startswith('enum tumashqin_refusal'):
-            refusals = numbered(matched(r'enum \w+ \{(.*)\}', statement)[0])
-        elif not statement.startswith('enum {'):
+        if not re.fullmatch(r'(enum|struct)( \w+)?|static inline .*', statement):
             result, name, arguments = matched(r'(\w+) (\w+)\((.*)\)', statement)
             functions[name] = result, [(a, kind.strip()) for kind, a in (matched(r'(.*[ *])(\w+)', a) for a in parts(arguments, ','))]
     return functions, {name.replace('TUMASHQIN_', ''): number for name, number in refusals.items() if number}
