@@ -20,15 +20,12 @@ pub const NAMES: [&str; 13] = [
     "store",
 ];
 
-/// Judges and does no more.
-pub const JUDGE: Call = Call { number: 11, arguments: [1, 0, 0, 0, 0] };
+/// The verdict: it judges and does no more. It has no number of document 01, and stands behind store.
+pub const JUDGE: Call = Call { number: 13, arguments: [0; 5] };
 /// What it answers of sound memory.
-pub const JUDGED_SOUND: Answer = Err(3);
-/// An address that is no multiple of 4 is the first thing that load refuses.
-pub const JUDGE_IS: &str =
-    "The judge is the call load of address 1, which is refused with 3 right after the judgement.";
+pub const JUDGED_SOUND: Answer = Ok(0);
 
-/// A call's number, 0 for format, and its arguments; those that it does not have are 0.
+/// A call's number, 0 for format and 13 for the verdict, and its arguments; those that it does not have are 0.
 #[derive(Clone, Copy, Debug)]
 pub struct Call {
     pub number: u32,
@@ -57,7 +54,8 @@ impl Call {
             9 => ordinary::enter(words, a),
             10 => ordinary::leave(words),
             11 => ordinary::load(words, a),
-            _ => ordinary::store(words, a, b),
+            12 => ordinary::store(words, a, b),
+            _ => ordinary::verdict(words),
         }
     }
 
@@ -79,7 +77,8 @@ impl Call {
             9 => memory.enter(a),
             10 => memory.leave(),
             11 => memory.load(a),
-            _ => memory.store(a, b),
+            12 => memory.store(a, b),
+            _ => memory.verdict().map(|()| 0),
         };
         answer.map_err(Refusal::number)
     }

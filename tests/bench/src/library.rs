@@ -17,14 +17,16 @@ extern "C" {
     fn tumashqin_leave();
     fn tumashqin_load();
     fn tumashqin_store();
+    fn tumashqin_verdict();
     fn tumashqin_write_record();
     fn tumashqin_record_refusal();
     fn tumashqin_record_begin();
     fn tumashqin_record_end();
+    fn tumashqin_record_revision_length();
 }
 
-/// By number; format stands at 0.
-const CALLS: [Function; 13] = [
+/// By number; format stands at 0, and the verdict behind store.
+const CALLS: [Function; 14] = [
     tumashqin_format,
     tumashqin_create_partition,
     tumashqin_delete_partition,
@@ -38,13 +40,15 @@ const CALLS: [Function; 13] = [
     tumashqin_leave,
     tumashqin_load,
     tumashqin_store,
+    tumashqin_verdict,
 ];
 
 /// The record's readers.
-pub const READERS: [(&str, Function); 3] = [
+pub const READERS: [(&str, Function); 4] = [
     ("record refusal", tumashqin_record_refusal),
     ("record begin", tumashqin_record_begin),
     ("record end", tumashqin_record_end),
+    ("record revision", tumashqin_record_revision_length),
 ];
 
 /// A call; its answer is the refusal, or the word where there is none.
@@ -55,7 +59,7 @@ pub fn call(call: &Call, words: &mut [u32]) -> (Result<u32, u32>, usize) {
         painted::call(CALLS[call.number as usize], [words.as_mut_ptr() as usize, words.len(), a, b, c, d, e])
     };
     let (refusal, word) = match call.number {
-        0 => (answer as u32, 0),
+        0 | 13 => (answer as u32, 0),
         _ => ((answer >> 32) as u32, answer as u32),
     };
     (if refusal == 0 { Ok(word) } else { Err(refusal) }, stack)

@@ -1,6 +1,5 @@
 //! Measures the proved kernel beside the ordinary version. Exit status 1 where a bar is missed.
 
-use bench::call::JUDGE_IS;
 use bench::report::{Bar, Report};
 use std::process::ExitCode;
 use std::time::Duration;
@@ -15,7 +14,7 @@ fn main() -> ExitCode {
     };
     let report = Report::measure(Duration::from_secs(seconds));
     println!("{}. Times are in nanoseconds: the least of many single calls, the two versions in turn.", processor());
-    println!("{JUDGE_IS}\n");
+    println!("The judge is the verdict of a memory.\n");
     if markdown {
         report.short.iter().for_each(|table| print!("{}", table.markdown()));
     } else {

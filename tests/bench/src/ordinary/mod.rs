@@ -14,7 +14,7 @@ mod threes;
 
 pub use access::{enter, leave, load, store};
 pub use format::format;
-pub use judge::is_sound;
+pub use judge::{is_sound, verdict};
 pub use lending::{add_vaddr, mapped_in_child, remove_vaddr};
 pub use making::{create_partition, delete_partition};
 pub use refusal::Answer;

@@ -120,17 +120,18 @@ fn damages(whole: &[u32]) -> Option<usize> {
 }
 
 /// The record's writer where it passes and where it is refused after the judgement, and its readers.
-fn records(whole: &[u32]) -> [(&'static str, usize); 5] {
+fn records(whole: &[u32]) -> [(&'static str, usize); 6] {
     let (mut record, revision) = ([0; LENGTH], [7; REVISION]);
     let (refusal, short) = library::write_record(whole, &revision[1..], &mut record);
     assert_eq!((refusal, record), (17, [0; LENGTH]));
     let (refusal, written) = library::write_record(whole, &revision, &mut record);
     assert_eq!(refusal, 0);
-    let [check, begin, end] = library::READERS.map(|(name, reader)| {
+    let [check, begin, end, part] = library::READERS.map(|(name, reader)| {
         let (answer, bytes) = library::read(reader, &record);
         (name, answer, bytes)
     });
-    assert_eq!((check.1, begin.1), (0, 256));
+    assert_eq!((check.1, begin.1, part.1), (0, 256, 64));
     let reader = |(name, _, bytes)| (name, bytes);
-    [("write record", written), ("write record, refused", short), reader(check), reader(begin), reader(end)]
+    let [check, begin, end, part] = [check, begin, end, part].map(reader);
+    [("write record", written), ("write record, refused", short), check, begin, end, part]
 }

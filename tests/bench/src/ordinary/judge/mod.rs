@@ -7,6 +7,7 @@ mod walk;
 use super::address::*;
 use super::format::*;
 use super::memory::*;
+use super::refusal::{require, Answer, DAMAGED};
 use view::View;
 use walk::Walk;
 
@@ -19,6 +20,11 @@ fn sound(holds: bool) -> Judged {
 
 pub fn is_sound(words: &[u32]) -> bool {
     judged(words).is_some()
+}
+
+/// The judgement alone.
+pub fn verdict(words: &[u32]) -> Answer {
+    require(is_sound(words), DAMAGED).map(|()| 0)
 }
 
 fn judged(words: &[u32]) -> Judged {
