@@ -1,8 +1,8 @@
 // Scripts by hand: from a text to a replay script, or to the first line that can't be read and why.
-pub mod assembling;
-pub mod buffers;
-pub mod calls;
-pub mod messages;
+mod assembling;
+mod buffers;
+mod calls;
+mod messages;
 
 pub use assembling::assemble;
 pub use assembling::script_length;
