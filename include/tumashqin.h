@@ -9,7 +9,10 @@
  * any contents and any arguments. A slice that is written (`words` and `out` without const) overlaps no other slice of the call.
  *
  * Threads. One call at a time on the same words: while a call runs, no other thread writes its slices, nor reads those that it writes.
- * Calls on different memories are independent. The deepest call needs under 4 KiB of stack (measured on the archive, not proved).
+ * Calls on different memories are independent.
+ *
+ * Stack. No call takes 4 KiB. The most measured is 3,392 bytes, by delete_partition on a tree eight levels deep, so that 704 are left; a level less takes
+ * 192 bytes less. This is measured on the archive, for every call at every depth and on damaged memory (tests/bench), and not proved.
  *
  * Memory. A page is 64 words, and a memory is N pages, 16 to 256. Addresses are virtual, of the current partition, as plain numbers. The
  * caller of every call is the current partition; format makes the root current. A call that refuses changes no word and no byte.
