@@ -203,9 +203,11 @@ module _ (b : ℕ) (m : List ℕ) (i : ℕ) {dir pt s2 sh2 : List ℕ} {y : ℕ}
       ∙ ap (λ (z : ℕ). rootAt (i * pageWords b + j) (getD pt j 0) z) (y-at b m 1 i e h n ep e2 ey et j l)
 
   pub root-row : {r : Bool} {v p t f : ℕ} → v ≡ i * pageWords b → p ≡ pages b m → t ≡ threesFor b p → f ≡ flatPages b p
-      → r ≡ run (asking (λ j. rootWords b t f (v + j) (getD pt j 0) (getD s2 j 0))) true (from (pageWords b) 0) → r ≡ run (asking (rootMapTest b m)) true (row b m 1 i)
+      → r ≡ run (asking (λ j. rootWords b t f (v + j) (getD pt j 0) (getD s2 j 0))) true (from (pageWords b) 0)
+      → r ≡ run (asking (rootMapTest b m)) true (row b m 1 i)
   root-row {v = v} {f = f} q eq er ef g =
       g ∙ ap (λ (k : ℕ). run (asking (λ j. rootWords b k f (v + j) (getD pt j 0) (getD s2 j 0))) true (from (pageWords b) 0)) (er ∙ ap (threesFor b) eq)
-      ∙ ap (λ (k : ℕ). run (asking (λ j. rootWords b (threesFor b (pages b m)) k (v + j) (getD pt j 0) (getD s2 j 0))) true (from (pageWords b) 0)) (ef ∙ ap (flatPages b) eq)
+      ∙ ap (λ (k : ℕ). run (asking (λ j. rootWords b (threesFor b (pages b m)) k (v + j) (getD pt j 0) (getD s2 j 0))) true (from (pageWords b) 0))
+      (ef ∙ ap (flatPages b) eq)
       ∙ ap (λ (k : ℕ). run (asking (λ j. rootAt (k + j) (getD pt j 0) (getD s2 j 0))) true (from (pageWords b) 0)) q
       ∙ sym (row-run b m (asking (rootMapTest b m)) 1 dir e (asking (λ j. rootAt (i * pageWords b + j) (getD pt j 0) (getD s2 j 0))) i true h n (λ j l t. ap (λ (k : Bool). t && k) (root-same j l)))

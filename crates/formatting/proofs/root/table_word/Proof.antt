@@ -19,7 +19,8 @@ add-if2-2 : tie.Need-add-if2-2
 add-if2-2 c = search needs
 
 returns-2 : tie.Need-returns-2
-returns-2 c = let s = c .before .before .before .before .args in table-after (s .b) (s .n) (s .t) (c .before .before .before .before .pre .1 .0 .0) (s .v .0) (c .before .before .if1 .left) (c .if2 .taken)
+returns-2 c = let s = c .before .before .before .before .args in table-after (s .b) (s .n) (s .t) (c .before .before .before .before .pre .1 .0 .0)
+    (s .v .0) (c .before .before .if1 .left) (c .if2 .taken)
 
 flat-page-requires : tie.Need-flat-page-requires
 flat-page-requires c κs = search needs
@@ -35,7 +36,8 @@ returns-3 c =
     let s = c .before .before .before .before .before .before .before .args in
     let h = c .before .before .before .before .before .before .before .pre in
     let e = c .before .page-address .ensures .0 ∙ ap (address (s .b)) (c .before .before .flat-page .ensures) in
-    table-maps (s .b) (s .n) (s .t) (h .1 .0 .0) (s .v .0) (c .before .page-address .result) (c .entry-of .result) (c .before .before .before .before .before .if1 .left) (c .before .before .before .if2 .left) e (c .entry-of .ensures)
+    table-maps (s .b) (s .n) (s .t) (h .1 .0 .0) (s .v .0) (c .before .page-address .result) (c .entry-of .result)
+    (c .before .before .before .before .before .if1 .left) (c .before .before .before .if2 .left) e (c .entry-of .ensures)
 
 pub table-word-spec : {M : Type 1} → statement M
 table-word-spec =

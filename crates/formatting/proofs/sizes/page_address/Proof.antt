@@ -8,7 +8,15 @@ address-requires : tie.Need-address-requires
 address-requires c κs = (c .pre .0, omega (arith, near-address (c .args .b) (c .args .p .0) (c .pre .0 .1) (c .pre .1)))
 
 returns : tie.Need-returns
-returns c = (c .address .ensures, omega (arith, c .address .ensures, near-address (c .before .args .b) (c .before .args .p .0) (c .before .pre .0 .1) (c .before .pre .1)))
+returns c = (
+  c .address .ensures,
+  omega (
+    arith,
+    c .address .ensures,
+    near-address (c .before .args .b) (c .before .args .p .0) (c .before .pre .0 .1)
+        (c .before .pre .1),
+  ),
+)
 
 pub page-address-spec : {M : Type 1} → statement M
 page-address-spec = tie.close (tie.spec address-requires returns)

@@ -574,7 +574,8 @@ judge-children-returns-3 t c =
     (childStep (s .b) (s .m .now) (s .d .0) (W.child (children (s .b) (s .m .now)) (own (s .b) (s .m .now)) (partitionTest (s .b) (s .m .now)) (s .left))) (s .d .0)
     (words-of .result .now) e (some (c .before .loop .seen)) (c .loop-test .left) (c .before .loop .inv .3 (s .d .0) e e1)
 
-judge-partition-judge-alone-requires : (t : ℕ) → judge-partition-lts.Need-judge-alone-requires (judge-partition-claims t) (judge-partition-at t) judge-partition.Post
+judge-partition-judge-alone-requires : (t : ℕ) → judge-partition-lts.Need-judge-alone-requires (judge-partition-claims t)
+    (judge-partition-at t) judge-partition.Post
 judge-partition-judge-alone-requires t c κs = search needs
 
 judge-partition-same-length : (t : ℕ) → judge-partition-lts.Need-same-length (judge-partition-claims t) (judge-partition-at t) judge-partition.Post
@@ -597,7 +598,8 @@ judge-partition-returns-2 t c =
     alone-yes _ _ _ _ _ _ (judge-alone .last .1 .1 .0) marked
     ∙ no-child (s .b) (s .m .now) _ (judge-alone .last .1 .1 .0) (s .d .0) (judge-alone .ensures .1 (not-false _ (first .left))) (c .if2 .taken)
 
-judge-partition-judge-children-requires : (t : ℕ) → judge-partition-lts.Need-judge-children-requires (judge-partition-claims t) (judge-partition-at t) judge-partition.Post
+judge-partition-judge-children-requires : (t : ℕ) → judge-partition-lts.Need-judge-children-requires (judge-partition-claims t)
+    (judge-partition-at t) judge-partition.Post
 judge-partition-judge-children-requires t c κs = search needs
 
 judge-partition-same-length-3 : (t : ℕ) → judge-partition-lts.Need-same-length-3 (judge-partition-claims t) (judge-partition-at t) judge-partition.Post

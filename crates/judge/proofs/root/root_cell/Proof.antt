@@ -28,7 +28,13 @@ returns-4 : tie.Need-returns-4
 returns-4 c =
     let s = c .before .before .before .before .before .before .before .before .before .before .args in
     let first = c .before .before .before .before .before .before .before .before .before .if1 in
-    rw (equal refl refl (first .left), le-leb 1 (s .v .0) (omega arith), le-leb (s .v .0) (s .flat) (omega arith), unequal (c .before .before .before .before .page-of .ensures) (c .before .before .before .flat-page .ensures) (c .if4 .taken))
+    rw (
+      equal refl refl (first .left),
+      le-leb 1 (s .v .0) (omega arith),
+      le-leb (s .v .0) (s .flat) (omega arith),
+      unequal
+          (c .before .before .before .before .page-of .ensures) (c .before .before .before .flat-page .ensures) (c .if4 .taken),
+    )
 
 rights-requires : tie.Need-rights-requires
 rights-requires c κs = search needs
@@ -37,7 +43,13 @@ returns-5 : tie.Need-returns-5
 returns-5 c =
     let s = c .before .before .before .before .before .before .before .before .before .before .before .args in
     let first = c .before .before .before .before .before .before .before .before .before .before .if1 in
-    rw (equal refl refl (first .left), le-leb 1 (s .v .0) (omega arith), le-leb (s .v .0) (s .flat) (omega arith), equal (c .before .before .before .before .before .page-of .ensures) (c .before .before .before .before .flat-page .ensures) (c .before .if4 .left))
+    rw (
+      equal refl refl (first .left),
+      le-leb 1 (s .v .0) (omega arith),
+      le-leb (s .v .0) (s .flat) (omega arith),
+      equal
+          (c .before .before .before .before .before .page-of .ensures) (c .before .before .before .before .flat-page .ensures) (c .before .if4 .left),
+    )
     (same-eqb (c .rights .ensures) refl)
 
 pub root-cell-spec : {M : Type 1} → statement M

@@ -21,7 +21,8 @@ use Rattle.judge.proofs.root.root_map.Statement.{statement}
 use Rattle.judge.proofs.root.root_map.Tie as tie
 
 abbrev Inv-loop : tie.InvT-loop
-Inv-loop b m n t flat dir sh2 i₀ i = (i ≤ length dir) × (i < length dir → used dir i ≡ true) × (all (rootMapTest b m) (tabled b m 1) ≡ run (rowStep b m (asking (rootMapTest b m)) 1) true (from (pageWords b - i) i))
+Inv-loop b m n t flat dir sh2 i₀ i = (i ≤ length dir) × (i < length dir → used dir i ≡ true) ×
+    (all (rootMapTest b m) (tabled b m 1) ≡ run (rowStep b m (asking (rootMapTest b m)) 1) true (from (pageWords b - i) i))
 
 abbrev μ-loop : tie.MeasureT-loop
 μ-loop b m n t flat dir sh2 i₀ i = length dir - i
@@ -109,7 +110,14 @@ root-row-requires c κs =
     let e : p .i * c .page-words .result ≡ p .i * pageWords (s .b) = rw (c .page-words .ensures .0) in
     let short = dir-short (s .b) (s .m .now) (directory .result .0) (words-of .ensures) in (
       h,
-      (omega (arith, row-in (s .b) (p .i) (omega (arith, short))), (omega (arith, threes-for .ensures .1, most-pages (s .b) (h .1)), part-short (s .b) (s .m .now) (getD (words-of .result .now) (p .i) 0) (c .before .before .before .table-of .ensures))),
+      (
+        omega (arith, row-in (s .b) (p .i) (omega (arith, short))),
+        (
+          omega (arith, threes-for .ensures .1, most-pages (s .b) (h .1)),
+          part-short (s .b) (s .m .now) (getD (words-of .result .now) (p .i) 0)
+              (c .before .before .before .table-of .ensures),
+        ),
+      ),
     )
 
 returns : tie.Need-returns Inv-loop μ-loop
@@ -127,7 +135,10 @@ returns c =
     let s = c .before .before .before .before .before .before .before .before .before .before .before .before .before .before .before .before .before .before .args in
     let e = words-of .ensures ∙ ap (page (s .b) (s .m .now)) (directory .ensures) in
     asks-stop (s .b) (s .m .now) (rootMapTest (s .b) (s .m .now)) 1 (words-of .result .now) e (test .taken)
-    (root-row (s .b) (s .m .now) (p .i) e (test .taken) (p .inv .1 (test .taken)) (table-of .ensures) (words-of2 .ensures ∙ ap (page (s .b) (s .m .now)) (shadow2 .ensures)) (c .before .before .before .before .read .ensures) (c .before .before .before .table-of2 .ensures) (ap (λ (x : ℕ). p .i * x) (c .before .before .page-words .ensures .0)) (pages .ensures) (threes-for .ensures .0) (flat-pages .ensures) (c .before .root-row .ensures))
+    (root-row (s .b) (s .m .now) (p .i) e (test .taken) (p .inv .1 (test .taken)) (table-of .ensures)
+    (words-of2 .ensures ∙ ap (page (s .b) (s .m .now)) (shadow2 .ensures)) (c .before .before .before .before .read .ensures)
+    (c .before .before .before .table-of2 .ensures) (ap (λ (x : ℕ). p .i * x) (c .before .before .page-words .ensures .0)) (pages .ensures)
+    (threes-for .ensures .0) (flat-pages .ensures) (c .before .root-row .ensures))
     (c .if1 .taken) (p .inv .2)
 
 add-next-word : tie.Need-add-next-word Inv-loop μ-loop
@@ -161,7 +172,10 @@ loop-again c =
       next-high (used dir) (length dir) (p .i + 1) (omega arith) (c .next-word2 .ensures),
       next-here (used dir) (length dir) (p .i + 1) (omega arith) (c .next-word2 .ensures),
       asks-next (s .b) (s .m .now) (rootMapTest (s .b) (s .m .now)) 1 dir e (test .taken)
-          (root-row (s .b) (s .m .now) (p .i) e (test .taken) (p .inv .1 (test .taken)) (table-of .ensures) (words-of2 .ensures ∙ ap (page (s .b) (s .m .now)) (shadow2 .ensures)) (read .ensures) (c .before .before .before .before .table-of2 .ensures) (ap (λ (x : ℕ). p .i * x) (c .before .before .before .page-words .ensures .0)) (pages .ensures) (threes-for .ensures .0) (flat-pages .ensures) (c .before .before .root-row .ensures))
+          (root-row (s .b) (s .m .now) (p .i) e (test .taken) (p .inv .1 (test .taken)) (table-of .ensures)
+          (words-of2 .ensures ∙ ap (page (s .b) (s .m .now)) (shadow2 .ensures)) (read .ensures) (c .before .before .before .before .table-of2 .ensures)
+          (ap (λ (x : ℕ). p .i * x) (c .before .before .before .page-words .ensures .0)) (pages .ensures) (threes-for .ensures .0) (flat-pages .ensures)
+          (c .before .before .root-row .ensures))
           (c .before .if1 .left) (c .next-word2 .ensures) (p .inv .2),
     )
 
@@ -170,7 +184,8 @@ returns-2 c =
     let directory = c .before .before .before .before .before .before .directory in
     let words-of = c .before .before .before .before .before .words-of in
     let s = c .before .before .before .before .before .before .before .before .before .before .before .args in
-    sym (rows-end (s .b) (s .m .now) (asking (rootMapTest (s .b) (s .m .now))) 1 (words-of .result .now) (words-of .ensures ∙ ap (page (s .b) (s .m .now)) (directory .ensures)) true (c .loop-test .left) (c .before .loop .inv .2))
+    sym (rows-end (s .b) (s .m .now) (asking (rootMapTest (s .b) (s .m .now))) 1 (words-of .result .now)
+    (words-of .ensures ∙ ap (page (s .b) (s .m .now)) (directory .ensures)) true (c .loop-test .left) (c .before .loop .inv .2))
 
 pub root-map-spec : {M : Type 1} → statement M
 root-map-spec =

@@ -16,13 +16,16 @@ use Rattle.judge.proofs.root.root_row.Statement.{statement}
 use Rattle.judge.proofs.root.root_row.Tie as tie
 
 abbrev Inv-loop : tie.InvT-loop
-Inv-loop b t flat v pt s2 n k₀ i₀ k i = (i ≤ n) × Counted (run (asking (λ l. rootWords b t flat (v .0 + l) (getD pt l 0) (getD s2 l 0))) true (from (pageWords b) 0)) (λ l. rootWords b t flat (v .0 + l) (getD pt l 0) (getD s2 l 0)) (pageWords b) i k
+Inv-loop b t flat v pt s2 n k₀ i₀ k i = (i ≤ n) × Counted (run (asking (λ l. rootWords b t flat (v .0 + l) (getD pt l 0) (getD s2 l 0))) true
+    (from (pageWords b) 0)) (λ l. rootWords b t flat (v .0 + l) (getD pt l 0) (getD s2 l 0)) (pageWords b) i k
 
 abbrev μ-loop : tie.MeasureT-loop
 μ-loop b t flat v pt s2 n k₀ i₀ k i = n - i
 
 abbrev Inv-loop2 : tie.InvT-loop2
-Inv-loop2 b t flat v pt s2 n k i end j₀ j = (j ≤ pageWords b) × (run (asking (λ l. rootWords b t flat (v .0 + l) (getD pt l 0) (getD s2 l 0))) true (from (pageWords b) 0) ≡ run (asking (λ l. rootWords b t flat (v .0 + l) (getD pt l 0) (getD s2 l 0))) true (from (pageWords b - j) j))
+Inv-loop2 b t flat v pt s2 n k i end j₀ j = (j ≤ pageWords b) ×
+    (run (asking (λ l. rootWords b t flat (v .0 + l) (getD pt l 0) (getD s2 l 0))) true (from (pageWords b) 0) ≡ run
+    (asking (λ l. rootWords b t flat (v .0 + l) (getD pt l 0) (getD s2 l 0))) true (from (pageWords b - j) j))
 
 abbrev μ-loop2 : tie.MeasureT-loop2
 μ-loop2 b t flat v pt s2 n k i end j₀ j = pageWords b - j
@@ -32,7 +35,15 @@ least-requires c κs = search needs
 
 loop-holds : tie.Need-loop-holds Inv-loop μ-loop Inv-loop2 μ-loop2
 loop-holds c =
-    let s = c .before .before .before .args in (omega arith, (omega arith, (λ e. run-start (asking (λ l. rootWords (s .b) (s .t) (s .flat) (s .v .0 + l) (getD (s .pt .now) l 0) (getD (s .s2 .now) l 0))) (pageWords (s .b)) true), λ l. absurd (omega (arith, l))))
+    let s = c .before .before .before .args in (
+      omega arith,
+      (
+        omega arith,
+        (λ e. run-start (asking (λ l. rootWords (s .b) (s .t) (s .flat) (s .v .0 + l) (getD (s .pt .now) l 0) (getD (s .s2 .now) l 0)))
+            (pageWords (s .b)) true),
+        λ l. absurd (omega (arith, l)),
+      ),
+    )
 
 cast-t16 : tie.Need-cast-t16 Inv-loop μ-loop Inv-loop2 μ-loop2
 cast-t16 c = search needs
@@ -103,7 +114,8 @@ loop2-holds c =
     let e : p .i ≡ n = omega (arith, p .inv .0, c .before .before .loop-test .left) in (
       omega (arith, h .1 .1 .1, least .ensures),
       p .inv .1 .1 (omega (arith, p .inv .1 .0, c .before .if1 .left, e)) ∙ ap
-          (λ (j : ℕ). run (asking (λ l. rootWords (s .b) (s .t) (s .flat) (s .v .0 + l) (getD (s .pt .now) l 0) (getD (s .s2 .now) l 0))) true (from (pageWords (s .b) - j) j)) e,
+          (λ (j : ℕ). run (asking (λ l. rootWords (s .b) (s .t) (s .flat) (s .v .0 + l) (getD (s .pt .now) l 0) (getD (s .s2 .now) l 0))) true
+          (from (pageWords (s .b) - j) j)) e,
     )
 
 add-t27 : tie.Need-add-t27 Inv-loop μ-loop Inv-loop2 μ-loop2
@@ -131,7 +143,8 @@ returns-2 c =
     let p = c .before .before .before .before .before .before .loop2 in
     ask-stop (λ l. rootWords (s .b) (s .t) (s .flat) (s .v .0 + l) (getD (s .pt .now) l 0) (getD (s .s2 .now) l 0)) (pageWords (s .b)) (p .j)
     (omega (arith, page-words .ensures .0))
-    (c .before .root-cell .ensures ∙ root-words (s .b) (s .t) (s .flat) (s .v .0 + p .j) (c .before .before .before .read .ensures) (c .before .before .read2 .ensures))
+    (c .before .root-cell .ensures ∙ root-words (s .b) (s .t) (s .flat) (s .v .0 + p .j) (c .before .before .before .read .ensures)
+    (c .before .before .read2 .ensures))
     (c .if2 .taken) (p .inv .1)
 
 add-j : tie.Need-add-j Inv-loop μ-loop Inv-loop2 μ-loop2
@@ -148,7 +161,8 @@ loop2-again c =
       omega (arith, page-words .ensures .0),
       ask-next (λ l. rootWords (s .b) (s .t) (s .flat) (s .v .0 + l) (getD (s .pt .now) l 0) (getD (s .s2 .now) l 0)) (pageWords (s .b)) (p .j)
           (omega (arith, page-words .ensures .0))
-          (c .before .root-cell .ensures ∙ root-words (s .b) (s .t) (s .flat) (s .v .0 + p .j) (c .before .before .before .read .ensures) (c .before .before .read2 .ensures))
+          (c .before .root-cell .ensures ∙ root-words (s .b) (s .t) (s .flat) (s .v .0 + p .j) (c .before .before .before .read .ensures)
+          (c .before .before .read2 .ensures))
           (c .if2 .left) (p .inv .1),
     )
 
@@ -156,7 +170,8 @@ returns-3 : tie.Need-returns-3 Inv-loop μ-loop Inv-loop2 μ-loop2
 returns-3 c =
     let s = c .before .before .before .before .before .before .before .before .before .args in
     let p = c .before .loop2 in
-    sym (p .inv .1 ∙ run-end (asking (λ l. rootWords (s .b) (s .t) (s .flat) (s .v .0 + l) (getD (s .pt .now) l 0) (getD (s .s2 .now) l 0))) (pageWords (s .b)) (p .j) true (omega (arith, c .before .before .page-words .ensures .0)))
+    sym (p .inv .1 ∙ run-end (asking (λ l. rootWords (s .b) (s .t) (s .flat) (s .v .0 + l) (getD (s .pt .now) l 0) (getD (s .s2 .now) l 0)))
+    (pageWords (s .b)) (p .j) true (omega (arith, c .before .before .page-words .ensures .0)))
 
 pub root-row-spec : {M : Type 1} → statement M
 root-row-spec =

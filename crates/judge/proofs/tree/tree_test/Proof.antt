@@ -31,7 +31,8 @@ returns-2 c =
     let h = c .before .before .before .before .before .before .before .before .before .pre in
     let judge-root = c .before .before .before .before .before .judge-root in
     c .all-marked .ensures ∙ sym
-    (judged-yes (s .b) (s .m .now) (judge-root .last .1 .1 .0) (passed _ (judge-root .result) _ (judge-root .ensures) (not-false _ (c .before .before .if1 .left))) (judge-root .kept .1 .1 .0 ∙ h .1))
+    (judged-yes (s .b) (s .m .now) (judge-root .last .1 .1 .0)
+    (passed _ (judge-root .result) _ (judge-root .ensures) (not-false _ (c .before .before .if1 .left))) (judge-root .kept .1 .1 .0 ∙ h .1))
 
 pub tree-test-spec : {M : Type 1} → statement M
 tree-test-spec =

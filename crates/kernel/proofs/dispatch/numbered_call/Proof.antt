@@ -193,7 +193,22 @@ returns-13 : tie.Need-returns-13
 unfolding numbered callOf
 returns-13 c =
     let match = c .before .before .before .before .match in
-    rw (ne-eqb _ 0 (match .rest .0 .0 .0 .0 .0 .0 .0 .0 .0 .0 .0 .1), ne-eqb _ 1 (match .rest .0 .0 .0 .0 .0 .0 .0 .0 .0 .0 .1), ne-eqb _ 2 (match .rest .0 .0 .0 .0 .0 .0 .0 .0 .0 .1), ne-eqb _ 3 (match .rest .0 .0 .0 .0 .0 .0 .0 .0 .1), ne-eqb _ 4 (match .rest .0 .0 .0 .0 .0 .0 .0 .1), ne-eqb _ 5 (match .rest .0 .0 .0 .0 .0 .0 .1), ne-eqb _ 6 (match .rest .0 .0 .0 .0 .0 .1), ne-eqb _ 7 (match .rest .0 .0 .0 .0 .1), ne-eqb _ 8 (match .rest .0 .0 .0 .1), ne-eqb _ 9 (match .rest .0 .0 .1), ne-eqb _ 10 (match .rest .0 .1), ne-eqb _ 11 (match .rest .1))
+    rw (
+      ne-eqb _ 0 (match .rest .0 .0 .0 .0 .0 .0 .0 .0 .0 .0 .0 .1),
+      ne-eqb _ 1 (match .rest .0 .0 .0 .0 .0 .0 .0 .0 .0 .0 .1),
+      ne-eqb _ 2
+          (match .rest .0 .0 .0 .0 .0 .0 .0 .0 .0 .1),
+      ne-eqb _ 3 (match .rest .0 .0 .0 .0 .0 .0 .0 .0 .1),
+      ne-eqb _ 4 (match .rest .0 .0 .0 .0 .0 .0 .0 .1),
+      ne-eqb _ 5 (match .rest .0 .0 .0 .0 .0 .0 .1),
+      ne-eqb _ 6 (match .rest .0 .0 .0 .0 .0 .1),
+      ne-eqb _ 7 (match .rest .0 .0 .0 .0 .1),
+      ne-eqb _ 8
+          (match .rest .0 .0 .0 .1),
+      ne-eqb _ 9 (match .rest .0 .0 .1),
+      ne-eqb _ 10 (match .rest .0 .1),
+      ne-eqb _ 11 (match .rest .1),
+    )
     (c .before .before .store .ensures)
 
 pub numbered-call-spec : {M : Type 1} → statement M

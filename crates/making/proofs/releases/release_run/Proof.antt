@@ -44,7 +44,8 @@ loop-again : tie.Need-loop-again Inv-loop μ-loop
 loop-again c =
     let s = c .before .before .before .before .before .before .before .before .args in
     let p = c .before .before .before .before .before .before .loop in
-    let e = c .before .before .release-if .ensures ∙ ap (λ (a : ℕ). releasing (s .b) (p .m) (s .d .0) a (s .c)) (c .before .before .before .address-of .ensures) in (
+    let e = c .before .before .release-if .ensures ∙ ap (λ (a : ℕ). releasing (s .b) (p .m) (s .d .0) a (s .c))
+    (c .before .before .before .address-of .ensures) in (
       ap (λ (x : List ℕ). releaseAll (s .b) (s .n - (p .k + 1)) (s .v .0 + (p .k + 1)) x (s .d .0) (s .c)) e
           ∙ sym (releaseAll-more (s .b) (s .d .0) (s .c) (p .m) (s .n) (s .v .0) (p .k) (omega arith))
           ∙ p .inv .0,

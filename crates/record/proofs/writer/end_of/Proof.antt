@@ -21,7 +21,8 @@ address-of-requires : tie.Need-address-of-requires
 address-of-requires c κs =
     let h = c .before .before .before .pre in
     let s = c .before .before .before .args in
-    (h .0, end-fits (s .b) (s .m .now) (h .0 .1) (h .1) _ (omega (arith, c .flat-pages .ensures ∙ ap (Geometry.flatPages (s .b)) (c .before .pages .ensures))))
+    let e = c .flat-pages .ensures ∙ ap (Geometry.flatPages (s .b)) (c .before .pages .ensures) in
+    (h .0, end-fits (s .b) (s .m .now) (h .0 .1) (h .1) _ (omega (arith, e)))
 
 returns : tie.Need-returns
 returns c =
