@@ -17,7 +17,7 @@ static void line(int place, uint64_t answer)
 
 int main(void)
 {
-    if (tumashqin_format(words, WORDS) != TUMASHQIN_DONE)
+    if (tumashqin_format(words, WORDS, TUMASHQIN_PAGES_256) != TUMASHQIN_DONE)
         return 1;
     line(1, tumashqin_create_partition(words, WORDS, 256, 512, 768, 1024, 1280));
     line(2, tumashqin_page_count(words, WORDS, 256, 4096));

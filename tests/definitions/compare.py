@@ -41,14 +41,14 @@ class Definitions:
                 seen[key] = sound(b, m)
             return seen[key]
         self.program.functions['soundness', 'Test', 'soundTest'] = self.sound = once
-        self.answer = self.program.get('rules', 'Calls', 'answer')
-        self.after = self.program.get('rules', 'Calls', 'after')
+        self.answer = self.program.get('rules', 'Editions', 'answer')
+        self.after = self.program.get('rules', 'Editions', 'after')
         self.replay = self.program.get('rules', 'Replay', 'replay')
 
     def call(self, memory, numbers):
         c = (NAMES[numbers[0]],) + tuple(numbers[1:])
-        answer = ap(self.answer, 6, memory, c)
-        return '%s %d' % answer, ap(self.after, 6, memory, c)
+        answer = ap(self.answer, memory, c)
+        return '%s %d' % answer, ap(self.after, memory, c)
 
 
 def second(*args, stdin=b''):
@@ -60,7 +60,7 @@ def run_file(definitions, lines):
     n = int(lines[0])
     memory = [i * 2654435761 % 2 ** 32 for i in range(64 * n)]
     out = []
-    for line in ['0'] + lines[1:]:
+    for line in ['0 0'] + lines[1:]:
         said, memory = definitions.call(memory, [int(x) for x in line.split()])
         out.append('%s %s' % (said, fingerprint(memory)))
     return out, memory
@@ -73,7 +73,7 @@ def compare_calls(definitions, seed, count, n):
     theirs = second('run', stdin=text).decode().split('\n')[:-1]
     for i, (a, b) in enumerate(zip(ours, theirs)):
         if a != b:
-            differ('seed %d, N %d, call %d: %s' % (seed, n, i, (['0'] + lines[1:])[i]), a, b)
+            differ('seed %d, N %d, call %d: %s' % (seed, n, i, (['0 0'] + lines[1:])[i]), a, b)
     if len(ours) != len(theirs):
         differ('lengths', len(ours), len(theirs))
     kinds = {}

@@ -17,14 +17,14 @@ def trace(*words, given=b''):
     return subprocess.run([os.path.join(TARGET, 'release', 'trace')] + [str(w) for w in words], input=given, stdout=subprocess.PIPE, check=True).stdout
 
 
-def made(seed, count, pages):
-    return [[int(word) for word in line.split()] for line in trace('make', seed, count, pages).decode().split('\n')[1:-1]]
+def made(seed, count, pages, edition):
+    return [[int(word) for word in line.split()] for line in trace('make', seed, count, pages, edition).decode().split('\n')[1:-1]]
 
 
 def memories():
     s = sequences
-    return s.barred() + s.unformatted() + s.deep() + s.eleven() + s.grandchildren() + s.together() + \
-        [(64 * pages, s.guided(made(seed, count, pages))) for seed, count, pages in s.GUIDED]
+    return s.barred() + s.unformatted() + s.deep() + s.eleven() + s.grandchildren() + s.together() + s.editions() + \
+        [([64, 1024][edition] * pages, s.guided(made(seed, count, pages, edition), edition)) for seed, count, pages, edition in s.GUIDED]
 
 
 def written():

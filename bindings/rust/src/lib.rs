@@ -6,9 +6,9 @@
 //!
 //! ```
 //! # fn main() -> Result<(), tumashqin::Refusal> {
-//! use tumashqin::{Memory, Refusal, READ, WRITE};
+//! use tumashqin::{Edition, Memory, Refusal, READ, WRITE};
 //! let mut words = [0; 20 * tumashqin::PAGE_WORDS];
-//! let mut memory = Memory::format(&mut words)?;
+//! let mut memory = Memory::format(&mut words, Edition::Pages256)?;
 //! memory.create_partition([256, 512, 768, 1024, 1280])?; // a child, named by its descriptor's address, 256
 //! memory.store(1536, 1792)?; // three pages, chained, for its tables
 //! memory.store(1792, 2048)?;
@@ -26,6 +26,6 @@ mod raw;
 mod record;
 mod refusal;
 
-pub use memory::{verdict, Memory, EXECUTE, PAGE_WORDS, READ, WRITE};
+pub use memory::{verdict, Edition, Memory, EXECUTE, PAGE_WORDS, READ, WRITE};
 pub use record::{read_record, record_begin, record_end, revision, Record, RECORD_BYTES, REVISION_BYTES};
 pub use refusal::Refusal;

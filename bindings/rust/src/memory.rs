@@ -3,8 +3,17 @@ use crate::raw;
 use crate::refusal::{answered, done, Refusal};
 use std::fmt;
 
-/// Words of a page; a memory is 16 to 256 pages.
+/// Words of a page of 256 bytes; a memory is 16 to 256 such pages.
 pub const PAGE_WORDS: usize = 64;
+
+/// The geometry that format chooses.
+#[derive(Clone, Copy, PartialEq, Eq, Debug)]
+pub enum Edition {
+    /// Pages of 256 bytes, 16 to 256 of them; addresses of 20 bits.
+    Pages256 = 0,
+    /// Pages of 4,096 bytes, 16 to 4,096 of them; addresses of 32 bits.
+    Pages4096 = 1,
+}
 
 /// The right to read a page.
 pub const READ: u32 = 1;
@@ -35,8 +44,8 @@ impl<'a> Memory<'a> {
     /// Root is current.
     ///
     /// Refusal: Size.
-    pub fn format(words: &'a mut [u32]) -> Result<Memory<'a>, Refusal> {
-        done(unsafe { raw::tumashqin_format(words.as_mut_ptr(), words.len()) })?;
+    pub fn format(words: &'a mut [u32], edition: Edition) -> Result<Memory<'a>, Refusal> {
+        done(unsafe { raw::tumashqin_format(words.as_mut_ptr(), words.len(), edition as u32) })?;
         Ok(Memory { words })
     }
 
@@ -45,7 +54,7 @@ impl<'a> Memory<'a> {
         Memory { words }
     }
 
-    /// The words, page k at words 64k to 64k+63.
+    /// The words, page k at words 64k to 64k+63, or 1,024k to 1,024k+1,023.
     pub fn words(&self) -> &[u32] {
         self.words
     }

@@ -1,7 +1,7 @@
 //! The library's functions, as include/tumashqin.h declares them: a slice is a pointer and its number of elements.
 
 extern "C" {
-    pub fn tumashqin_format(words: *mut u32, length: usize) -> u32;
+    pub fn tumashqin_format(words: *mut u32, length: usize, edition: u32) -> u32;
     pub fn tumashqin_create_partition(
         words: *mut u32,
         length: usize,

@@ -1,10 +1,10 @@
 //! "A bench morning, whole" of document 01: fifteen calls and their answers.
-use tumashqin::{Memory, Refusal, PAGE_WORDS, READ, WRITE};
+use tumashqin::{Edition, Memory, Refusal, PAGE_WORDS, READ, WRITE};
 
 #[test]
 fn a_bench_morning() {
     let mut words = [0; 20 * PAGE_WORDS];
-    let mut memory = Memory::format(&mut words).unwrap();
+    let mut memory = Memory::format(&mut words, Edition::Pages256).unwrap();
     assert_eq!(memory.create_partition([256, 512, 768, 1024, 1280]), Ok(0));
     assert_eq!(memory.page_count(256, 4096), Ok(3));
     assert_eq!(memory.store(1536, 1792), Ok(0));
@@ -26,7 +26,7 @@ fn a_bench_morning() {
 #[test]
 fn the_words_of_the_morning() {
     let mut words = [0; 20 * PAGE_WORDS];
-    let mut memory = Memory::format(&mut words).unwrap();
+    let mut memory = Memory::format(&mut words, Edition::Pages256).unwrap();
     memory.create_partition([256, 512, 768, 1024, 1280]).unwrap();
     memory.store(1536, 1792).unwrap();
     memory.store(1792, 2048).unwrap();

@@ -1,5 +1,5 @@
 //! The start-up record, written and read back.
-use tumashqin::{read_record, record_begin, record_end, revision, Memory, Record, Refusal, PAGE_WORDS, RECORD_BYTES};
+use tumashqin::{read_record, record_begin, record_end, revision, Edition, Memory, Record, Refusal, PAGE_WORDS, RECORD_BYTES};
 
 /// 1 to 65: the first 64 count.
 const REVISION: [u8; 65] = {
@@ -16,7 +16,7 @@ const REVISION: [u8; 65] = {
 fn written() -> [u8; RECORD_BYTES + 4] {
     let mut words = [0; 20 * PAGE_WORDS];
     let mut bytes = [9; RECORD_BYTES + 4];
-    Memory::format(&mut words).unwrap().write_record(&REVISION, &mut bytes).unwrap();
+    Memory::format(&mut words, Edition::Pages256).unwrap().write_record(&REVISION, &mut bytes).unwrap();
     bytes
 }
 
@@ -40,7 +40,7 @@ fn the_writer_refuses_and_writes_nothing() {
     let mut words = [0; 20 * PAGE_WORDS];
     let mut bytes = [9; RECORD_BYTES];
     assert_eq!(Memory::over(&mut words).write_record(&[], &mut bytes), Err(Refusal::Damaged));
-    let memory = Memory::format(&mut words).unwrap();
+    let memory = Memory::format(&mut words, Edition::Pages256).unwrap();
     assert_eq!(memory.write_record(&REVISION[..63], &mut bytes), Err(Refusal::Short));
     assert_eq!(memory.write_record(&REVISION, &mut bytes[..75]), Err(Refusal::Short));
     assert_eq!(bytes, [9; RECORD_BYTES]);

@@ -1,5 +1,5 @@
 //! Refusals: their numbers, and that a call which refuses changes no word.
-use tumashqin::{verdict, Memory, Refusal, PAGE_WORDS};
+use tumashqin::{verdict, Edition, Memory, Refusal, PAGE_WORDS};
 
 /// What each of the twelve calls answers, with arguments that a sound memory would take.
 fn all_calls(memory: &mut Memory) -> [Result<u32, Refusal>; 12] {
@@ -33,7 +33,7 @@ fn every_number_is_its_refusals() {
 #[test]
 fn damaged_memory_changes_by_no_call() {
     let mut words = [0; 20 * PAGE_WORDS];
-    Memory::format(&mut words).unwrap();
+    Memory::format(&mut words, Edition::Pages256).unwrap();
     assert_eq!(verdict(&words), Ok(()));
     words[0] = 21;
     let before = words;
@@ -46,7 +46,7 @@ fn damaged_memory_changes_by_no_call() {
 fn memory_of_a_wrong_length_changes_by_no_call() {
     for length in [0, 1, 15 * PAGE_WORDS, 16 * PAGE_WORDS + 1, 257 * PAGE_WORDS] {
         let mut words = vec![7; length];
-        assert_eq!(Memory::format(&mut words).unwrap_err(), Refusal::Size);
+        assert_eq!(Memory::format(&mut words, Edition::Pages256).unwrap_err(), Refusal::Size);
         assert_eq!(Memory::over(&mut words).verdict(), Err(Refusal::Damaged));
         assert_eq!(all_calls(&mut Memory::over(&mut words)), [Err(Refusal::Damaged); 12]);
         assert_eq!(words, vec![7; length]);
@@ -56,7 +56,7 @@ fn memory_of_a_wrong_length_changes_by_no_call() {
 #[test]
 fn every_other_refusal_changes_no_word() {
     let mut words = [0; 20 * PAGE_WORDS];
-    let mut memory = Memory::format(&mut words).unwrap();
+    let mut memory = Memory::format(&mut words, Edition::Pages256).unwrap();
     let before = memory.words().to_vec();
     assert_eq!(memory.load(1 << 20), Err(Refusal::Address));
     assert_eq!(memory.load((1 << 20) - 256), Err(Refusal::Unmapped));

@@ -1,6 +1,6 @@
 //! The example scripts, called here, print what the proved replay program prints.
 use std::{fmt::Write, fs, path::Path};
-use tumashqin::{read_record, Memory, Refusal, PAGE_WORDS, RECORD_BYTES};
+use tumashqin::{read_record, Edition, Memory, Refusal, PAGE_WORDS, RECORD_BYTES};
 
 const ARGUMENTS: [usize; 12] = [5, 1, 4, 2, 2, 3, 2, 1, 1, 0, 1, 2];
 
@@ -25,7 +25,7 @@ fn call(memory: &mut Memory, number: u32, a: [u32; 5]) -> Result<u32, Refusal> {
 fn replay(script: &[u8]) -> String {
     let word = |at: usize| u32::from_le_bytes(script[at..at + 4].try_into().unwrap());
     let mut words = vec![0; word(0) as usize * PAGE_WORDS];
-    let mut memory = Memory::format(&mut words).unwrap();
+    let mut memory = Memory::format(&mut words, Edition::Pages256).unwrap();
     let mut record = [0; RECORD_BYTES];
     memory.write_record(&[0; 64], &mut record).unwrap();
     let mut text = format!("{} {}\n", word(0), read_record(&record).unwrap().end / 256 - 1);

@@ -12,7 +12,7 @@ use Rattle.walk.specs.Reflect.{both, le?}
 use Rattle.memory.specs.Format.{format}
 use Rattle.rules.specs.Bytes.{littleEndian, wordIn}
 use Rattle.rules.specs.Call.{Call}
-use Rattle.rules.specs.Calls.{answers}
+use Rattle.rules.specs.Editions.{answers}
 use Rattle.rules.specs.Replay.{records, script, transcript, replayed, replay}
 use Rattle.script.specs.Walk.{goodHeader}
 use Rattle.script.proofs.Heads.{header?, script-is}
@@ -167,7 +167,7 @@ read-back text bytes e = pick (ltb 65536 (length text)) e
 
 -- what replay prints of it
 pub replays : (text bytes : List ℕ) → assembled text ≡ written bytes
-    → replay 6 bytes ≡ transcript 6 (pagesMeant (lines text)) (answers 6 (format 6 (pagesMeant (lines text))) (callsMeant (lines text)))
+    → replay 6 bytes ≡ transcript 6 (pagesMeant (lines text)) (answers (format 6 (pagesMeant (lines text))) (callsMeant (lines text)))
 unfolding replay replayed
 replays text bytes e =
     let (p, q) = read-back text bytes e in

@@ -14,7 +14,7 @@ use Rattle.rules.specs.Row.{first, _when_}
 use Rattle.rules.specs.Call.{Call, formatAll, createPartition, pageCount, store, prepare, addVAddr}
 use Rattle.rules.specs.Conditions.{badPage}
 use Rattle.rules.specs.Refusals.{refusal}
-use Rattle.rules.specs.Calls.{after, run}
+use Rattle.rules.specs.Editions.{after, run}
 use Rattle.cases.specs.Computing.{computing}
 
 infix 68 _is_
@@ -38,12 +38,12 @@ table =
     ∷ threesFor 6 72 is 1 ∷ flatPages 6 72 is 63
     ∷ threesFor 6 73 is 2 ∷ flatPages 6 73 is 61
     ∷ threesFor 6 256 is 4 ∷ flatPages 6 256 is 238
-    ∷ refusal 6 (replicate (15 * 64) 0) formatAll is 2
-    ∷ refusal 6 (replicate (257 * 64) 0) formatAll is 2
+    ∷ refusal 6 (replicate (15 * 64) 0) (formatAll 0) is 2
+    ∷ refusal 6 (replicate (257 * 64) 0) (formatAll 0) is 2
     ∷ mapping 6 (format 6 16) 1 256 is 2335
-    ∷ mapping 6 (after 6 (format 6 16) (createPartition 256 512 768 1024 1280)) 1 256 is 2333
+    ∷ mapping 6 (after (format 6 16) (createPartition 256 512 768 1024 1280)) 1 256 is 2333
     ∷ word 6 (format 6 16) 0 3 is 2304
-    ∷ mapping 6 (run 6 (format 6 20) sixRecords) 9 4096 is 4367
+    ∷ mapping 6 (run (format 6 20) sixRecords) 9 4096 is 4367
     ∷ first (ADDRESS when badPage 6 (2 ^ 20 - 256) ∷ []) is 0
     ∷ first (ADDRESS when badPage 6 (2 ^ 20) ∷ []) is 3
     ∷ []

@@ -10,7 +10,7 @@ use Rattle.rules.specs.Row.{Answer, ok, no}
 use Rattle.rules.specs.Bytes.{littleEndian}
 use Rattle.rules.specs.Call.{Call}
 use Rattle.rules.specs.Replay.{callOf, push, records, script}
-use Rattle.rules.specs.Calls.{answers}
+use Rattle.rules.specs.Editions.{answers}
 use Rattle.cases.specs.Computing.{computing}
 
 -- N, record count, offset; then each record's number and arguments
@@ -26,7 +26,7 @@ bytesOf (w ∷ ws) = littleEndian w ++ bytesOf ws
 -- the answers to a script's records on a fresh memory of n pages; none where it is a bad script
 unfoldable pub answersTo : ℕ → Option (List Call) → List Answer
 answersTo n none = []
-answersTo n (some cs) = answers 6 (format 6 n) cs
+answersTo n (some cs) = answers (format 6 n) cs
 
 unfoldable pub same : List Answer → List Answer → Bool
 same [] [] = true

@@ -1,4 +1,4 @@
--- On memory whose length is not permitted no call passes and no word changes. Assumes nothing.
+-- On memory whose length is none of any edition no call passes and no word changes. Assumes nothing.
 use mathlib.Core.Path.{_≡_, refl, ap, ap₂, _∙_}
 use mathlib.Core.List.{List, [], _∷_}
 use mathlib.Core.Bool.{true}
@@ -6,28 +6,34 @@ use Prim.Native.Nat.{ℕ, suc}
 use Rattle.walk.specs.Reflect.{isn't}
 use Rattle.soundness.specs.Test.{soundTest}
 use Rattle.soundness.proofs.Whole.{test-sound}
+use Rattle.memory.specs.Edition.{edition, width}
 use Rattle.rules.specs.Row.{Answer, no}
-use Rattle.rules.specs.Call.{Call, formatAll, createPartition, deletePartition, addVAddr, removeVAddr, pageCount, prepare, collect, mappedInChild, enter, leave, load, store}
+use Rattle.rules.specs.Call.{Call, formatAll, createPartition, deletePartition, addVAddr, removeVAddr, pageCount, prepare, collect, mappedInChild, enter, leave, load, store, choice}
 use Rattle.rules.specs.Conditions.{damaged}
 use Rattle.rules.specs.Refusals.{refusals}
-use Rattle.rules.specs.Calls.{answer, after, run, answers}
+use Rattle.rules.specs.Editions.{answer, after, run, answers}
+use Rattle.rules.specs.Permitted.{Fits}
 use Rattle.rules.proofs.Rows.{First, at, answer-no, after-no}
-use Rattle.claim.specs.Claim.{refusedBy, allRefused, Permitted, Barred}
-use Rattle.claim.proofs.Size.{wrong, header-permitted}
+use Rattle.rules.proofs.Size as Size
+use Rattle.rules.proofs.Size.{header-permitted}
+use Rattle.memory.proofs.Editions.{edition-known}
+use Rattle.claim.specs.Claim.{refusedBy, allRefused, Barred}
 
-module _ (b : ℕ) (m : List ℕ) (n : ¬ Permitted b m) where
-  unsound : damaged b m ≡ true
-  unsound = isn't {P = soundTest b m ≡ true} ((λ e. e), λ e. e) .1 (λ e. n (header-permitted b m (test-sound b m e .header)))
+module _ (m : List ℕ) (n : (e : ℕ) → ¬ Fits e m) where
+  unsound : damaged (width m) m ≡ true
+  unsound = isn't {P = soundTest (width m) m ≡ true} ((λ e. e), λ e. e) .1
+      (λ e. n (edition m) (record { known = edition-known m; size = header-permitted (width m) m (test-sound (width m) m e .header) }))
 
-  abbrev Refused : Call → ℕ → Type 0
-  Refused c r = (answer b m c ≡ no r) × (after b m c ≡ m)
+  abbrev Stopped : Call → ℕ → Type 0
+  Stopped c r = (answer m c ≡ no r) × (after m c ≡ m)
 
-  stopped : (c : Call) (r : ℕ) → First (refusals b m c) (suc r) → Refused c (suc r)
-  stopped c r h = (answer-no b m c r h, after-no b m c r h)
+  stopped : (c : Call) (r : ℕ) → First (refusals (width m) m c) (suc r) → Stopped c (suc r)
+  unfolding answer after
+  stopped c r h = (answer-no (width m) m c r h, after-no (width m) m c r h)
 
-  refused : (c : Call) → Refused c (refusedBy c)
-  unfolding refusals
-  refused formatAll = stopped _ 1 (at (wrong b m n))
+  refused : (c : Call) → Stopped c (refusedBy (choice c))
+  unfolding refusals choice
+  refused (formatAll e) = stopped _ 1 (Size.refused m e (width m) (n e))
   refused (createPartition p d s t l) = stopped _ 0 (at unsound)
   refused (deletePartition c) = stopped _ 0 (at unsound)
   refused (addVAddr p c t r) = stopped _ 0 (at unsound)
@@ -41,16 +47,16 @@ module _ (b : ℕ) (m : List ℕ) (n : ¬ Permitted b m) where
   refused (load a) = stopped _ 0 (at unsound)
   refused (store a x) = stopped _ 0 (at unsound)
 
-  same-words : (cs : List Call) → run b m cs ≡ m
+  same-words : (cs : List Call) → run m cs ≡ m
   unfolding run
   same-words [] = refl
-  same-words (c ∷ cs) = ap (λ (x : List ℕ). run b x cs) (refused c .1) ∙ same-words cs
+  same-words (c ∷ cs) = ap (λ (x : List ℕ). run x cs) (refused c .1) ∙ same-words cs
 
-  all-refused : (cs : List Call) → answers b m cs ≡ allRefused cs
+  all-refused : (cs : List Call) → answers m cs ≡ allRefused cs
   unfolding answers allRefused
   all-refused [] = refl
   all-refused (c ∷ cs) =
-      ap₂ (λ (x : Answer) (y : List Answer). x ∷ y) (refused c .0) (ap (λ (x : List ℕ). answers b x cs) (refused c .1) ∙ all-refused cs)
+      ap₂ (λ (x : Answer) (y : List Answer). x ∷ y) (refused c .0) (ap (λ (x : List ℕ). answers x cs) (refused c .1) ∙ all-refused cs)
 
-pub barred : (b : ℕ) (m : List ℕ) (cs : List Call) → ¬ Permitted b m → Barred b m cs
-barred b m cs n = record { words = same-words b m n cs; answered = all-refused b m n cs }
+pub barred : (m : List ℕ) (cs : List Call) → ((e : ℕ) → ¬ Fits e m) → Barred m cs
+barred m cs n = record { words = same-words m n cs; answered = all-refused m n cs }

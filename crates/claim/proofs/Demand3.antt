@@ -1,14 +1,8 @@
--- Demand 3. Assumes an index width of 6 or more.
-use Prim.Native.Nat.{ℕ, _≤_}
-use Rattle.rules.proofs.steps.Step.{run-sound}
-use Rattle.rules.specs.Conditions.{pagesIn}
+-- Demand 3, of every edition. What it rests on is proved for every index width of 6 or more. Assumes nothing.
 use Rattle.claim.specs.Claim.{Demand3}
 use Rattle.claim.proofs.Barred.{barred}
-use Rattle.claim.proofs.Pages.{pages-kept}
-use Rattle.claim.proofs.Permitted.{permitted-from}
+use Rattle.claim.proofs.Formatted.{format-stopped}
+use Rattle.claim.proofs.Permitted.{claimed}
 
-pub demand-3 : (b : ℕ) → 6 ≤ b → Demand3 b
-demand-3 b wide = record {
-  permitted = permitted-from b wide (λ m cs p. let s = run-sound wide (pagesIn b m) (p .least) (p .most) cs in (s, pages-kept b (pagesIn b m) cs s));
-  barred = barred b;
-}
+pub demand-3 : Demand3
+demand-3 = record { permitted = λ e m cs f. claimed e m f cs; refused = format-stopped; barred = barred }

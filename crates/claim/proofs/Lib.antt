@@ -1,4 +1,3 @@
-pub mod Size
 pub mod Barred
 pub mod Formatted
 pub mod Pages
@@ -9,3 +8,4 @@ pub mod Access
 pub mod Kept
 pub mod Permitted
 pub mod Demand3
+pub mod OneEdition

@@ -8,11 +8,14 @@ use lib.Dec.{eqb}
 use lib.ListN.{getD}
 use Rattle.memory.specs.Geometry.{pageOf, tableIndex}
 use Rattle.memory.specs.Words.{index}
+use Rattle.memory.specs.Edition.{width}
 use Rattle.memory.specs.Partition.{current, shadow1, tableAt, tableWord, lent}
 use Rattle.rules.specs.Call.{Call, formatAll, createPartition, deletePartition, addVAddr, removeVAddr, pageCount}
 use Rattle.rules.specs.Call.{prepare, collect, mappedInChild, enter, leave, load, store}
 use Rattle.rules.specs.Conditions.{child, noThree}
-use Rattle.rules.specs.Calls.{result, answer}
+use Rattle.rules.specs.Calls as C
+use Rattle.rules.specs.Calls.{result}
+use Rattle.rules.specs.Editions.{answer}
 use Rattle.rules.specs.Refusals.{refusal}
 use Rattle.answers.specs.Packed.{packed}
 use Rattle.exports.proofs.Replies.{upper-reply, lower-reply}
@@ -32,7 +35,7 @@ module _ (b k : ℕ) (m : List ℕ) (room : 3 < k) (small : (i : ℕ) → getD m
   -- a call answers 0, 3 or a word of the memory
   pub result-below : (c : Call) → result b m c < k
   unfolding result
-  result-below formatAll = none
+  result-below (formatAll e) = none
   result-below (createPartition p d s t l) = none
   result-below (deletePartition c) = none
   result-below (addVAddr p c t r) = none
@@ -47,10 +50,10 @@ module _ (b k : ℕ) (m : List ℕ) (room : 3 < k) (small : (i : ℕ) → getD m
   result-below (store a x) = none
 
 module _ (m : List ℕ) (words : (i : ℕ) → getD m i 0 < 2 ^ 32) (c : Call) where
-  pub upper-half : packed (answer 6 m c) / 2 ^ 32 ≡ refusal 6 m c
-  unfolding answer
-  upper-half = upper-reply (refusal 6 m c) (result 6 m c) (result-below 6 (2 ^ 32) m (omega arith) words c)
+  pub upper-half : packed (answer m c) / 2 ^ 32 ≡ refusal (width m) m c
+  unfolding answer C.answer
+  upper-half = upper-reply (refusal (width m) m c) (result (width m) m c) (result-below (width m) (2 ^ 32) m (omega arith) words c)
 
-  pub lower-half : packed (answer 6 m c) % 2 ^ 32 ≡ cond (eqb (refusal 6 m c) 0) (result 6 m c) 0
-  unfolding answer
-  lower-half = lower-reply (refusal 6 m c) (result 6 m c) (result-below 6 (2 ^ 32) m (omega arith) words c)
+  pub lower-half : packed (answer m c) % 2 ^ 32 ≡ cond (eqb (refusal (width m) m c) 0) (result (width m) m c) 0
+  unfolding answer C.answer
+  lower-half = lower-reply (refusal (width m) m c) (result (width m) m c) (result-below (width m) (2 ^ 32) m (omega arith) words c)

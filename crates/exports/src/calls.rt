@@ -3,17 +3,19 @@
 use crate::halves::upper;
 use answers::pack;
 ghost use mathlib.Core.Path.{_≡_};
+ghost use Rattle.memory.specs.Edition.{width};
 ghost use Rattle.rules.specs.Call;
-ghost use Rattle.rules.specs.Calls.{answer, after};
+ghost use Rattle.rules.specs.Editions.{answer, after};
 ghost use Rattle.rules.specs.Refusals.{refusal};
 ghost use Rattle.answers.specs.Packed.{packed};
 
-// Format: 0, or the refusal.
+// Format for an edition, 0 or 1: 0, or the refusal.
 #[no_mangle]
-pub extern "C" fn tumashqin_format(words: &mut [u32]) -> u32
-    ensures { λ r. ⌜ (r ≡ refusal 6 (now (words .entry)) Call.formatAll) × (now (words .exit) ≡ after 6 (now (words .entry)) Call.formatAll) ⌝ }
+pub extern "C" fn tumashqin_format(words: &mut [u32], edition: u32) -> u32
+    ensures { λ r. ⌜ (r ≡ refusal (width (now (words .entry))) (now (words .entry)) (Call.formatAll edition))
+        × (now (words .exit) ≡ after (now (words .entry)) (Call.formatAll edition)) ⌝ }
 {
-    upper(pack(kernel::format(words)))
+    upper(pack(kernel::format(words, edition)))
 }
 
 // 1. The five are descriptor, directory, shadow 1, shadow 2 and list, "taken as one group".
@@ -26,8 +28,8 @@ pub extern "C" fn tumashqin_create_partition(
     shadow2: u32,
     list: u32,
 ) -> u64
-    ensures { λ r. ⌜ (r ≡ packed (answer 6 (now (words .entry)) (Call.createPartition descriptor directory shadow1 shadow2 list)))
-        × (now (words .exit) ≡ after 6 (now (words .entry)) (Call.createPartition descriptor directory shadow1 shadow2 list)) ⌝ }
+    ensures { λ r. ⌜ (r ≡ packed (answer (now (words .entry)) (Call.createPartition descriptor directory shadow1 shadow2 list)))
+        × (now (words .exit) ≡ after (now (words .entry)) (Call.createPartition descriptor directory shadow1 shadow2 list)) ⌝ }
 {
     pack(kernel::create_partition(words, [descriptor, directory, shadow1, shadow2, list]))
 }
@@ -35,8 +37,8 @@ pub extern "C" fn tumashqin_create_partition(
 // 2.
 #[no_mangle]
 pub extern "C" fn tumashqin_delete_partition(words: &mut [u32], child: u32) -> u64
-    ensures { λ r. ⌜ (r ≡ packed (answer 6 (now (words .entry)) (Call.deletePartition child)))
-        × (now (words .exit) ≡ after 6 (now (words .entry)) (Call.deletePartition child)) ⌝ }
+    ensures { λ r. ⌜ (r ≡ packed (answer (now (words .entry)) (Call.deletePartition child)))
+        × (now (words .exit) ≡ after (now (words .entry)) (Call.deletePartition child)) ⌝ }
 {
     pack(kernel::delete_partition(words, child))
 }
@@ -50,8 +52,8 @@ pub extern "C" fn tumashqin_add_vaddr(
     target: u32,
     rights: u32,
 ) -> u64
-    ensures { λ r. ⌜ (r ≡ packed (answer 6 (now (words .entry)) (Call.addVAddr page child target rights)))
-        × (now (words .exit) ≡ after 6 (now (words .entry)) (Call.addVAddr page child target rights)) ⌝ }
+    ensures { λ r. ⌜ (r ≡ packed (answer (now (words .entry)) (Call.addVAddr page child target rights)))
+        × (now (words .exit) ≡ after (now (words .entry)) (Call.addVAddr page child target rights)) ⌝ }
 {
     pack(kernel::add_vaddr(words, page, child, target, rights))
 }
@@ -59,8 +61,8 @@ pub extern "C" fn tumashqin_add_vaddr(
 // 4.
 #[no_mangle]
 pub extern "C" fn tumashqin_remove_vaddr(words: &mut [u32], child: u32, target: u32) -> u64
-    ensures { λ r. ⌜ (r ≡ packed (answer 6 (now (words .entry)) (Call.removeVAddr child target)))
-        × (now (words .exit) ≡ after 6 (now (words .entry)) (Call.removeVAddr child target)) ⌝ }
+    ensures { λ r. ⌜ (r ≡ packed (answer (now (words .entry)) (Call.removeVAddr child target)))
+        × (now (words .exit) ≡ after (now (words .entry)) (Call.removeVAddr child target)) ⌝ }
 {
     pack(kernel::remove_vaddr(words, child, target))
 }
@@ -68,8 +70,8 @@ pub extern "C" fn tumashqin_remove_vaddr(words: &mut [u32], child: u32, target: 
 // 5.
 #[no_mangle]
 pub extern "C" fn tumashqin_page_count(words: &[u32], child: u32, target: u32) -> u64
-    ensures { λ r. ⌜ (r ≡ packed (answer 6 (now (words .entry)) (Call.pageCount child target)))
-        × (now (words .entry) ≡ after 6 (now (words .entry)) (Call.pageCount child target)) ⌝ }
+    ensures { λ r. ⌜ (r ≡ packed (answer (now (words .entry)) (Call.pageCount child target)))
+        × (now (words .entry) ≡ after (now (words .entry)) (Call.pageCount child target)) ⌝ }
 {
     pack(kernel::page_count(words, child, target))
 }
@@ -77,8 +79,8 @@ pub extern "C" fn tumashqin_page_count(words: &[u32], child: u32, target: u32) -
 // 6.
 #[no_mangle]
 pub extern "C" fn tumashqin_prepare(words: &mut [u32], child: u32, target: u32, first: u32) -> u64
-    ensures { λ r. ⌜ (r ≡ packed (answer 6 (now (words .entry)) (Call.prepare child target first)))
-        × (now (words .exit) ≡ after 6 (now (words .entry)) (Call.prepare child target first)) ⌝ }
+    ensures { λ r. ⌜ (r ≡ packed (answer (now (words .entry)) (Call.prepare child target first)))
+        × (now (words .exit) ≡ after (now (words .entry)) (Call.prepare child target first)) ⌝ }
 {
     pack(kernel::prepare(words, child, target, first))
 }
@@ -86,8 +88,8 @@ pub extern "C" fn tumashqin_prepare(words: &mut [u32], child: u32, target: u32, 
 // 7.
 #[no_mangle]
 pub extern "C" fn tumashqin_collect(words: &mut [u32], child: u32, target: u32) -> u64
-    ensures { λ r. ⌜ (r ≡ packed (answer 6 (now (words .entry)) (Call.collect child target)))
-        × (now (words .exit) ≡ after 6 (now (words .entry)) (Call.collect child target)) ⌝ }
+    ensures { λ r. ⌜ (r ≡ packed (answer (now (words .entry)) (Call.collect child target)))
+        × (now (words .exit) ≡ after (now (words .entry)) (Call.collect child target)) ⌝ }
 {
     pack(kernel::collect(words, child, target))
 }
@@ -95,8 +97,8 @@ pub extern "C" fn tumashqin_collect(words: &mut [u32], child: u32, target: u32) 
 // 8.
 #[no_mangle]
 pub extern "C" fn tumashqin_mapped_in_child(words: &[u32], page: u32) -> u64
-    ensures { λ r. ⌜ (r ≡ packed (answer 6 (now (words .entry)) (Call.mappedInChild page)))
-        × (now (words .entry) ≡ after 6 (now (words .entry)) (Call.mappedInChild page)) ⌝ }
+    ensures { λ r. ⌜ (r ≡ packed (answer (now (words .entry)) (Call.mappedInChild page)))
+        × (now (words .entry) ≡ after (now (words .entry)) (Call.mappedInChild page)) ⌝ }
 {
     pack(kernel::mapped_in_child(words, page))
 }
@@ -104,7 +106,7 @@ pub extern "C" fn tumashqin_mapped_in_child(words: &[u32], page: u32) -> u64
 // 9.
 #[no_mangle]
 pub extern "C" fn tumashqin_enter(words: &mut [u32], child: u32) -> u64
-    ensures { λ r. ⌜ (r ≡ packed (answer 6 (now (words .entry)) (Call.enter child))) × (now (words .exit) ≡ after 6 (now (words .entry)) (Call.enter child)) ⌝ }
+    ensures { λ r. ⌜ (r ≡ packed (answer (now (words .entry)) (Call.enter child))) × (now (words .exit) ≡ after (now (words .entry)) (Call.enter child)) ⌝ }
 {
     pack(kernel::enter(words, child))
 }
@@ -112,7 +114,7 @@ pub extern "C" fn tumashqin_enter(words: &mut [u32], child: u32) -> u64
 // 10.
 #[no_mangle]
 pub extern "C" fn tumashqin_leave(words: &mut [u32]) -> u64
-    ensures { λ r. ⌜ (r ≡ packed (answer 6 (now (words .entry)) Call.leave)) × (now (words .exit) ≡ after 6 (now (words .entry)) Call.leave) ⌝ }
+    ensures { λ r. ⌜ (r ≡ packed (answer (now (words .entry)) Call.leave)) × (now (words .exit) ≡ after (now (words .entry)) Call.leave) ⌝ }
 {
     pack(kernel::leave(words))
 }
@@ -120,8 +122,8 @@ pub extern "C" fn tumashqin_leave(words: &mut [u32]) -> u64
 // 11.
 #[no_mangle]
 pub extern "C" fn tumashqin_load(words: &[u32], address: u32) -> u64
-    ensures { λ r. ⌜ (r ≡ packed (answer 6 (now (words .entry)) (Call.load address)))
-        × (now (words .entry) ≡ after 6 (now (words .entry)) (Call.load address)) ⌝ }
+    ensures { λ r. ⌜ (r ≡ packed (answer (now (words .entry)) (Call.load address)))
+        × (now (words .entry) ≡ after (now (words .entry)) (Call.load address)) ⌝ }
 {
     pack(kernel::load(words, address))
 }
@@ -129,8 +131,8 @@ pub extern "C" fn tumashqin_load(words: &[u32], address: u32) -> u64
 // 12.
 #[no_mangle]
 pub extern "C" fn tumashqin_store(words: &mut [u32], address: u32, word: u32) -> u64
-    ensures { λ r. ⌜ (r ≡ packed (answer 6 (now (words .entry)) (Call.store address word)))
-        × (now (words .exit) ≡ after 6 (now (words .entry)) (Call.store address word)) ⌝ }
+    ensures { λ r. ⌜ (r ≡ packed (answer (now (words .entry)) (Call.store address word)))
+        × (now (words .exit) ≡ after (now (words .entry)) (Call.store address word)) ⌝ }
 {
     pack(kernel::store(words, address, word))
 }

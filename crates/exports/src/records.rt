@@ -3,14 +3,15 @@ use crate::halves::upper;
 use answers::pack;
 ghost use mathlib.Core.Path.{_≡_};
 ghost use lib.ListN.{length, take, drop};
+ghost use Rattle.memory.specs.Edition.{width};
 ghost use Rattle.rules.specs.Row.{first};
 ghost use Rattle.rules.specs.Record.{writerRefusals, afterWriter, readerRefusal, recordBegin, recordEnd, revisionOf};
 
 // The record of the memory, written at the start of `out`: 0, or the refusal.
 #[no_mangle]
 pub extern "C" fn tumashqin_write_record(words: &[u32], revision: &[u8], out: &mut [u8]) -> u32
-    ensures { λ r. ⌜ (r ≡ first (writerRefusals 6 (now (words .entry)) (now (revision .entry)) (now (out .entry))))
-        × (now (out .exit) ≡ afterWriter 6 (now (words .entry)) (now (revision .entry)) (now (out .entry))) ⌝ }
+    ensures { λ r. ⌜ (r ≡ first (writerRefusals (width (now (words .entry))) (now (words .entry)) (now (revision .entry)) (now (out .entry))))
+        × (now (out .exit) ≡ afterWriter (width (now (words .entry))) (now (words .entry)) (now (revision .entry)) (now (out .entry))) ⌝ }
 {
     upper(pack(startup::write_record(words, revision, out)))
 }

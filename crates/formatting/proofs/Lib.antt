@@ -1,3 +1,4 @@
 pub mod SizeLaws
 pub mod WordLaws
 pub mod FillLaws
+pub mod Choices

@@ -6,7 +6,7 @@ use Prim.Native.Nat.{ℕ, _+_, _-_, _*_, _/_, _%_, _≤_, _<_}
 use native.Mathlib.Omega.{arith}
 use borrow.Author.Tests.{eq-eqb, ne-eqb, lt-ltb, le-ltb, le-leb, lt-leb}
 use lib.ListN.{getD}
-use Rattle.memory.specs.Geometry.{pageWords, address, pageOf, threesFor, flatPages}
+use Rattle.memory.specs.Geometry.{editionOf, pageWords, address, pageOf, threesFor, flatPages}
 use Rattle.memory.specs.Entry.{entry}
 use Rattle.memory.specs.Format.{headerWord, rootDescriptorWord, rootDirectoryWord, rootListWord, rootTableWord, formatWord}
 use Rattle.memory.proofs.Geometry.{page-address}
@@ -16,8 +16,9 @@ pub descriptor-is : (b i d t s₁ s₂ l : ℕ) → d ≡ address b 1 → t ≡ 
 descriptor-is b i d t s₁ s₂ l hd ht h₁ h₂ hl = rw (hd, ht, h₁, h₂, hl)
 
 module _ (b n t : ℕ) (e : t ≡ threesFor b n) where
-  pub header-is : (i root first : ℕ) → root ≡ address b 1 → first ≡ address b (6 + 3 * t) → getD (n ∷ t ∷ root ∷ first ∷ root ∷ []) i 0 ≡ headerWord b n i
-  header-is i root first hr hf = rw (hf, hr, e)
+  pub header-is : (i root first edition : ℕ) → root ≡ address b 1 → first ≡ address b (6 + 3 * t) → edition ≡ editionOf b
+      → getD (n ∷ t ∷ root ∷ first ∷ root ∷ edition ∷ []) i 0 ≡ headerWord b n i
+  header-is i root first edition hr hf he = rw (hf, hr, he, e)
 
   pub directory-out : (k i : ℕ) → t ≤ i → 0 ≡ rootDirectoryWord b n k i
   directory-out k i h = simp (le-ltb i (threesFor b n) (omega arith))

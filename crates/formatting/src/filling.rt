@@ -11,11 +11,11 @@ ghost use Prim.Native.Nat.{_+_, _<_, _≤_};
 ghost use lib.ListN.{length};
 ghost use Rattle.memory.specs.Geometry.{threesFor, pageWords};
 ghost use Rattle.memory.specs.Words.{tabulate};
+ghost use Rattle.memory.specs.Format;
 ghost use Rattle.memory.specs.Format.{formatWord};
 ghost use Rattle.rules.specs.Call.{formatAll};
-ghost use Rattle.rules.specs.Conditions.{wrongSize};
-ghost use Rattle.rules.specs.Effects.{effect};
-ghost use Rattle.rules.specs.Calls.{answer, after};
+ghost use Rattle.rules.specs.Conditions.{pagesIn, wrongSize};
+ghost use Rattle.rules.specs.Editions.{answer, after};
 ghost use Rattle.pages.specs.Width.{Width};
 ghost use Rattle.answers.specs.Said.{said};
 
@@ -36,7 +36,7 @@ fn format_page(b: u32, s: &mut [u32], n: u32, t: u32, p: PhysicalPage)
 fn format_effect(b: u32, m: &mut [u32])
     requires { ⌜ Width b ⌝ }
     requires sized { ⌜ wrongSize b (now m) ≡ false ⌝ }
-    ensures { λ r. ⌜ now (m .exit) ≡ effect b (now (m .entry)) formatAll ⌝ }
+    ensures { λ r. ⌜ now (m .exit) ≡ Format.format b (pagesIn b (now (m .entry))) ⌝ }
 {
     let n = pages_in(b, m) as u32;
     let t = threes_for(b, n);
@@ -49,11 +49,14 @@ fn format_effect(b: u32, m: &mut [u32])
     }
 }
 
-// The call has no number, and one refusal: 2.
-pub fn format(b: u32, m: &mut [u32]) -> Answer
-    requires { ⌜ Width b ⌝ }
-    ensures { λ r. ⌜ (said r ≡ answer b (now (m .entry)) formatAll) × (now (m .exit) ≡ after b (now (m .entry)) formatAll) ⌝ }
+// The call has no number, and one refusal: 2. Document 02, L4: "format takes the choice and any other value is refused with 2".
+pub fn format(m: &mut [u32], edition: u32) -> Answer
+    ensures { λ r. ⌜ (said r ≡ answer (now (m .entry)) (formatAll edition)) × (now (m .exit) ≡ after (now (m .entry)) (formatAll edition)) ⌝ }
 {
+    if edition > 1 {
+        return Answer::Size;
+    }
+    let b = pages::width_of(edition);
     if wrong_size(b, m) {
         return Answer::Size;
     }

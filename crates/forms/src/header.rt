@@ -3,6 +3,7 @@ use crate::addresses::is_address;
 use crate::addresses::physical_address;
 use crate::words::zero_from;
 use pages::PhysicalPage;
+use pages::edition_of;
 use pages::index;
 use pages::page_bytes;
 use pages::pages;
@@ -79,5 +80,9 @@ pub fn header_test(b: u32, m: &[u32]) -> bool
     if !offsets_test(b, m) {
         return false;
     }
-    zero_from(b, m, PhysicalPage(0), 5)
+    // document 02, L4: "Page 0 word 5 is 0 for the old edition and 1 for this"
+    if read_word(b, m, PhysicalPage(0), 5) != edition_of(b) {
+        return false;
+    }
+    zero_from(b, m, PhysicalPage(0), 6)
 }

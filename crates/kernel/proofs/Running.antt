@@ -10,7 +10,9 @@ use native.Mathlib.Omega.{arith}
 use lib.ListN.{length, set}
 use Rattle.memory.specs.Words.{overwrite}
 use Rattle.rules.specs.Call.{Call}
-use Rattle.rules.specs.Calls.{answer, after, run, answers}
+use Rattle.rules.specs.Editions.{answer, after, run, answers}
+use Rattle.rules.specs.Permitted.{Fits}
+use Rattle.rules.proofs.Lengths.{length-run}
 use Rattle.claim.proofs.Demand3.{demand-3}
 use Rattle.answers.specs.Packed.{packed}
 use Rattle.kernel.specs.Sequence.{callAt, endAt, whole, callsFrom}
@@ -32,6 +34,14 @@ overwrite-next (x ∷ xs) (suc n) w ws = ap (λ (l : List ℕ). x ∷ l) (overwr
 overwrite-more : (out : List ℕ) (n w : ℕ) (ws : List ℕ) → overwrite out n (w ∷ ws) ≡ overwrite (set out n w) (n + 1) ws
 overwrite-more out n w ws = rw add-one (overwrite-next out n w ws)
 
+-- ---- the length alone tells whether a format passes
+
+fits-same : (e : ℕ) (m m′ : List ℕ) → length m′ ≡ length m → Fits e m → Fits e m′
+fits-same e m m′ l f = record {
+  known = f .known;
+  size = record { whole = rw l (f .size .whole); least = rw l (f .size .least); most = rw l (f .size .most) };
+}
+
 -- ---- what is left
 
 module _ (ws m₀ out₀ : List ℕ) where
@@ -41,7 +51,7 @@ module _ (ws m₀ out₀ : List ℕ) where
 
   pub record Rest (m out : List ℕ) (n i : ℕ) : Type 0 where
     pub count : n + length (left n i) ≡ length (executed ws out₀)
-    pub memory : run 6 m (left n i) ≡ run 6 m₀ (executed ws out₀)
+    pub memory : run m (left n i) ≡ run m₀ (executed ws out₀)
     pub answered : overwrite out n (packedAnswers m (left n i)) ≡ overwrite out₀ 0 (packedAnswers m₀ (executed ws out₀))
 
   pub rest-start : Rest m₀ out₀ 0 0
@@ -49,14 +59,14 @@ module _ (ws m₀ out₀ : List ℕ) where
       let z : left 0 0 ≡ executed ws out₀ = ap (λ k. callsFrom k ws 0) (sub-zero (length out₀)) in
       record {
         count = omega (arith, ap length z);
-        memory = ap (λ cs. run 6 m₀ cs) z;
+        memory = ap (λ cs. run m₀ cs) z;
         answered = ap (λ cs. overwrite out₀ 0 (packedAnswers m₀ cs)) z;
       }
 
   module _ {m out : List ℕ} {n i : ℕ} (r : Rest m out n i) where
     -- one more call
     pub rest-next : {e x : ℕ} {m′ : List ℕ} → n < length out₀ → e ≡ cond (whole ws i) (endAt ws i) 0 → e ≢ 0
-        → x ≡ packed (answer 6 m (callAt ws i)) → m′ ≡ after 6 m (callAt ws i) → Rest m′ (set out n x) (n + 1) e
+        → x ≡ packed (answer m (callAt ws i)) → m′ ≡ after m (callAt ws i) → Rest m′ (set out n x) (n + 1) e
     unfolding run answers
     rest-next {e} {x} {m′} h p q a b =
         let s : length out₀ - n ≡ suc (length out₀ - (n + 1)) = omega arith in
@@ -80,6 +90,6 @@ module _ (ws m₀ out₀ : List ℕ) where
           count = omega (arith, ap length e, r .count);
           memory = rw e at (r .memory);
           answered = sym (overwrite-none out n) ∙ rw e at (r .answered);
-          claim = λ cs ds f p. demand-3 6 (omega arith) .permitted m₀ cs p;
-          barred = λ p. demand-3 6 (omega arith) .barred m₀ (executed ws out₀) p;
+          claim = λ e fs cs ds q f. demand-3 .permitted e (run m₀ fs) cs (fits-same e m₀ (run m₀ fs) (length-run m₀ fs) f);
+          barred = demand-3 .barred m₀ (executed ws out₀);
         }

@@ -7,7 +7,7 @@ use lib.Dec.{leb}
 use lib.ListN.{getD}
 use Rattle.rules.specs.Row.{Answer}
 use Rattle.rules.specs.Call.{Call}
-use Rattle.rules.specs.Calls.{answer, after}
+use Rattle.rules.specs.Editions.{answer, after}
 use Rattle.answers.specs.Said.{said}
 use Rattle.kernel.specs.declared.dispatch.Called.{Called}
 use Rattle.kernel.specs.declared.dispatch.Called.the-variants.{Answered, Unknown}
@@ -25,8 +25,8 @@ module _ (m : List ℕ) (n : ℕ) (a : List ℕ) where
 
   -- numbers 0 to 12 are calls
   abbrev pub calledAnswer : Option Answer
-  calledAnswer = cond (leb n 12) (some (answer 6 m calledBy)) none
+  calledAnswer = cond (leb n 12) (some (answer m calledBy)) none
 
   -- any other number changes no word
   abbrev pub calledAfter : List ℕ
-  calledAfter = cond (leb n 12) (after 6 m calledBy) m
+  calledAfter = cond (leb n 12) (after m calledBy) m

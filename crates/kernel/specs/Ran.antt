@@ -5,8 +5,9 @@ use Prim.Native.Nat.{ℕ}
 use lib.ListN.{length}
 use Rattle.memory.specs.Words.{overwrite}
 use Rattle.rules.specs.Call.{Call, formatAll}
-use Rattle.rules.specs.Calls.{run, answers}
-use Rattle.claim.specs.Claim.{Permitted, Claim, Barred}
+use Rattle.rules.specs.Editions.{run, answers}
+use Rattle.rules.specs.Permitted.{Fits}
+use Rattle.claim.specs.Claim.{Claim, Barred}
 use Rattle.answers.specs.Packed.{packed}
 use Rattle.kernel.specs.Sequence.{callsFrom}
 
@@ -16,15 +17,15 @@ executed ws out = callsFrom (length out) ws 0
 
 -- the packed answers of calls cs on memory m
 abbrev pub packedAnswers : List ℕ → List Call → List ℕ
-packedAnswers m cs = map packed (answers 6 m cs)
+packedAnswers m cs = map packed (answers m cs)
 
 -- memory m and answers out become m′ and out′, and the run says n
 pub record Ran (ws m m′ out out′ : List ℕ) (n : ℕ) : Type 0 where
   pub count : n ≡ length (executed ws out)
-  pub memory : m′ ≡ run 6 m (executed ws out)
+  pub memory : m′ ≡ run m (executed ws out)
   -- the rest of the answers stays
   pub answered : out′ ≡ overwrite out 0 (packedAnswers m (executed ws out))
-  -- format and then any number of the calls behind it: demand 3 holds after format and after each of them
-  pub claim : (cs ds : List Call) → executed ws out ≡ formatAll ∷ (cs ++ ds) → Permitted 6 m → Claim 6 m cs
-  -- on memory of another length every call is refused and no word changes
-  pub barred : ¬ Permitted 6 m → Barred 6 m (executed ws out)
+  -- a format that passes, behind any calls fs, and then any number of the calls behind it: demand 3 holds after format and after each of them
+  pub claim : (e : ℕ) (fs cs ds : List Call) → executed ws out ≡ fs ++ (formatAll e ∷ (cs ++ ds)) → Fits e m → Claim e (run m fs) cs
+  -- on memory whose length is none of any edition every call is refused and no word changes
+  pub barred : ((e : ℕ) → ¬ Fits e m) → Barred m (executed ws out)

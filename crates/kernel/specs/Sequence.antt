@@ -7,13 +7,13 @@ use lib.ListN.{length, getD}
 use Rattle.rules.specs.Call.{Call, formatAll}
 use Rattle.rules.specs.Replay.{argumentCounts, callOf}
 
--- "How many arguments each call has is a fixed table by number"; format is number 0 and has none
+-- "How many arguments each call has is a fixed table by number"; format is number 0 and has one, the edition
 abbrev pub counts : List ℕ
-counts = 0 ∷ argumentCounts
+counts = 1 ∷ argumentCounts
 
 -- the call of number n (0 to 12) with argument j at a j
 unfoldable pub numbered : ℕ → (ℕ → ℕ) → Call
-numbered n a = cond (eqb n 0) formatAll (callOf n a)
+numbered n a = cond (eqb n 0) (formatAll (a 0)) (callOf n a)
 
 module _ (ws : List ℕ) (i : ℕ) where
   -- the five words behind word i: no call has more arguments

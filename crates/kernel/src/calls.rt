@@ -1,129 +1,129 @@
-// The open calls, by document 01's numbers. Each but format judges the memory first, and is then the call of that name at document 01's index width.
+// The open calls, by document 01's numbers. Each but format judges the memory first, and is then the call of that name at the width of the edition that
+// the header names.
 use answers::Answer;
 ghost use mathlib.Core.Path.{_≡_};
 ghost use Rattle.rules.specs.Call;
-ghost use Rattle.rules.specs.Calls.{answer, after};
+ghost use Rattle.rules.specs.Editions.{answer, after};
 ghost use Rattle.answers.specs.Said.{said};
 ghost use Rattle.making.specs.Group.{creating};
 
-// Format. Its number in a sequence is 0, and it asks nothing of the words.
-pub fn format(m: &mut [u32]) -> Answer
-    ensures { λ r. ⌜ (said r ≡ answer 6 (now (m .entry)) Call.formatAll) × (now (m .exit) ≡ after 6 (now (m .entry)) Call.formatAll) ⌝ }
+// Format for an edition, 0 or 1. Its number in a sequence is 0, and it asks nothing of the words.
+pub fn format(m: &mut [u32], edition: u32) -> Answer
+    ensures { λ r. ⌜ (said r ≡ answer (now (m .entry)) (Call.formatAll edition)) × (now (m .exit) ≡ after (now (m .entry)) (Call.formatAll edition)) ⌝ }
 {
-    let b = pages::width();
-    formatting::format(b, m)
+    formatting::format(m, edition)
 }
 
 // 1. The five are descriptor, directory, shadow 1, shadow 2 and list.
 pub fn create_partition(m: &mut [u32], five: [u32; 5]) -> Answer
-    ensures { λ r. ⌜ (said r ≡ answer 6 (now (m .entry)) (creating five)) × (now (m .exit) ≡ after 6 (now (m .entry)) (creating five)) ⌝ }
+    ensures { λ r. ⌜ (said r ≡ answer (now (m .entry)) (creating five)) × (now (m .exit) ≡ after (now (m .entry)) (creating five)) ⌝ }
 {
-    let b = pages::width();
+    let b = pages::width(m);
     let good = judge::is_sound(m);
     making::create_partition(b, m, good, five)
 }
 
 // 2.
 pub fn delete_partition(m: &mut [u32], child: u32) -> Answer
-    ensures { λ r. ⌜ (said r ≡ answer 6 (now (m .entry)) (Call.deletePartition child))
-        × (now (m .exit) ≡ after 6 (now (m .entry)) (Call.deletePartition child)) ⌝ }
+    ensures { λ r. ⌜ (said r ≡ answer (now (m .entry)) (Call.deletePartition child))
+        × (now (m .exit) ≡ after (now (m .entry)) (Call.deletePartition child)) ⌝ }
 {
-    let b = pages::width();
+    let b = pages::width(m);
     let good = judge::is_sound(m);
     making::delete_partition(b, m, good, child)
 }
 
 // 3.
 pub fn add_vaddr(m: &mut [u32], page: u32, child: u32, target: u32, rights: u32) -> Answer
-    ensures { λ r. ⌜ (said r ≡ answer 6 (now (m .entry)) (Call.addVAddr page child target rights))
-        × (now (m .exit) ≡ after 6 (now (m .entry)) (Call.addVAddr page child target rights)) ⌝ }
+    ensures { λ r. ⌜ (said r ≡ answer (now (m .entry)) (Call.addVAddr page child target rights))
+        × (now (m .exit) ≡ after (now (m .entry)) (Call.addVAddr page child target rights)) ⌝ }
 {
-    let b = pages::width();
+    let b = pages::width(m);
     let good = judge::is_sound(m);
     lending::add_vaddr(b, m, good, page, child, target, rights)
 }
 
 // 4.
 pub fn remove_vaddr(m: &mut [u32], child: u32, target: u32) -> Answer
-    ensures { λ r. ⌜ (said r ≡ answer 6 (now (m .entry)) (Call.removeVAddr child target))
-        × (now (m .exit) ≡ after 6 (now (m .entry)) (Call.removeVAddr child target)) ⌝ }
+    ensures { λ r. ⌜ (said r ≡ answer (now (m .entry)) (Call.removeVAddr child target))
+        × (now (m .exit) ≡ after (now (m .entry)) (Call.removeVAddr child target)) ⌝ }
 {
-    let b = pages::width();
+    let b = pages::width(m);
     let good = judge::is_sound(m);
     lending::remove_vaddr(b, m, good, child, target)
 }
 
 // 5.
 pub fn page_count(m: &[u32], child: u32, target: u32) -> Answer
-    ensures { λ r. ⌜ (said r ≡ answer 6 (now (m .entry)) (Call.pageCount child target))
-        × (now (m .entry) ≡ after 6 (now (m .entry)) (Call.pageCount child target)) ⌝ }
+    ensures { λ r. ⌜ (said r ≡ answer (now (m .entry)) (Call.pageCount child target))
+        × (now (m .entry) ≡ after (now (m .entry)) (Call.pageCount child target)) ⌝ }
 {
-    let b = pages::width();
+    let b = pages::width(m);
     let good = judge::is_sound(m);
     counting::page_count(b, m, good, child, target)
 }
 
 // 6.
 pub fn prepare(m: &mut [u32], child: u32, target: u32, first: u32) -> Answer
-    ensures { λ r. ⌜ (said r ≡ answer 6 (now (m .entry)) (Call.prepare child target first))
-        × (now (m .exit) ≡ after 6 (now (m .entry)) (Call.prepare child target first)) ⌝ }
+    ensures { λ r. ⌜ (said r ≡ answer (now (m .entry)) (Call.prepare child target first))
+        × (now (m .exit) ≡ after (now (m .entry)) (Call.prepare child target first)) ⌝ }
 {
-    let b = pages::width();
+    let b = pages::width(m);
     let good = judge::is_sound(m);
     preparing::prepare(b, m, good, child, target, first)
 }
 
 // 7.
 pub fn collect(m: &mut [u32], child: u32, target: u32) -> Answer
-    ensures { λ r. ⌜ (said r ≡ answer 6 (now (m .entry)) (Call.collect child target))
-        × (now (m .exit) ≡ after 6 (now (m .entry)) (Call.collect child target)) ⌝ }
+    ensures { λ r. ⌜ (said r ≡ answer (now (m .entry)) (Call.collect child target))
+        × (now (m .exit) ≡ after (now (m .entry)) (Call.collect child target)) ⌝ }
 {
-    let b = pages::width();
+    let b = pages::width(m);
     let good = judge::is_sound(m);
     collecting::collect(b, m, good, child, target)
 }
 
 // 8.
 pub fn mapped_in_child(m: &[u32], page: u32) -> Answer
-    ensures { λ r. ⌜ (said r ≡ answer 6 (now (m .entry)) (Call.mappedInChild page)) × (now (m .entry) ≡ after 6 (now (m .entry)) (Call.mappedInChild page)) ⌝ }
+    ensures { λ r. ⌜ (said r ≡ answer (now (m .entry)) (Call.mappedInChild page)) × (now (m .entry) ≡ after (now (m .entry)) (Call.mappedInChild page)) ⌝ }
 {
-    let b = pages::width();
+    let b = pages::width(m);
     let good = judge::is_sound(m);
     lending::mapped_in_child(b, m, good, page)
 }
 
 // 9.
 pub fn enter(m: &mut [u32], child: u32) -> Answer
-    ensures { λ r. ⌜ (said r ≡ answer 6 (now (m .entry)) (Call.enter child)) × (now (m .exit) ≡ after 6 (now (m .entry)) (Call.enter child)) ⌝ }
+    ensures { λ r. ⌜ (said r ≡ answer (now (m .entry)) (Call.enter child)) × (now (m .exit) ≡ after (now (m .entry)) (Call.enter child)) ⌝ }
 {
-    let b = pages::width();
+    let b = pages::width(m);
     let good = judge::is_sound(m);
     access::enter(b, m, good, child)
 }
 
 // 10.
 pub fn leave(m: &mut [u32]) -> Answer
-    ensures { λ r. ⌜ (said r ≡ answer 6 (now (m .entry)) Call.leave) × (now (m .exit) ≡ after 6 (now (m .entry)) Call.leave) ⌝ }
+    ensures { λ r. ⌜ (said r ≡ answer (now (m .entry)) Call.leave) × (now (m .exit) ≡ after (now (m .entry)) Call.leave) ⌝ }
 {
-    let b = pages::width();
+    let b = pages::width(m);
     let good = judge::is_sound(m);
     access::leave(b, m, good)
 }
 
 // 11.
 pub fn load(m: &[u32], address: u32) -> Answer
-    ensures { λ r. ⌜ (said r ≡ answer 6 (now (m .entry)) (Call.load address)) × (now (m .entry) ≡ after 6 (now (m .entry)) (Call.load address)) ⌝ }
+    ensures { λ r. ⌜ (said r ≡ answer (now (m .entry)) (Call.load address)) × (now (m .entry) ≡ after (now (m .entry)) (Call.load address)) ⌝ }
 {
-    let b = pages::width();
+    let b = pages::width(m);
     let good = judge::is_sound(m);
     access::load(b, m, good, address)
 }
 
 // 12.
 pub fn store(m: &mut [u32], address: u32, word: u32) -> Answer
-    ensures { λ r. ⌜ (said r ≡ answer 6 (now (m .entry)) (Call.store address word)) × (now (m .exit) ≡ after 6 (now (m .entry)) (Call.store address word)) ⌝ }
+    ensures { λ r. ⌜ (said r ≡ answer (now (m .entry)) (Call.store address word)) × (now (m .exit) ≡ after (now (m .entry)) (Call.store address word)) ⌝ }
 {
-    let b = pages::width();
+    let b = pages::width(m);
     let good = judge::is_sound(m);
     access::store(b, m, good, address, word)
 }

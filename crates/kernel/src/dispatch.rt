@@ -6,7 +6,7 @@ ghost use mathlib.Core.Path.{_≡_};
 ghost use mathlib.Core.Bool.{true};
 ghost use Prim.Native.Nat.{_≤_, _<_};
 ghost use lib.ListN.{length, getD};
-ghost use Rattle.rules.specs.Calls.{answer, after};
+ghost use Rattle.rules.specs.Editions.{answer, after};
 ghost use Rattle.answers.specs.Said.{said};
 ghost use Rattle.answers.specs.Packed.{packed};
 ghost use Rattle.kernel.specs.Sequence.{numbered, five, callAt, whole};
@@ -21,11 +21,11 @@ pub enum Called {
 // The call of number n, with its arguments in a.
 fn numbered_call(m: &mut [u32], n: u32, a: [u32; 5]) -> Answer
     requires { ⌜ n ≤ 12 ⌝ }
-    ensures { λ r. ⌜ (said r ≡ answer 6 (now (m .entry)) (numbered n (λ j. getD a j 0)))
-        × (now (m .exit) ≡ after 6 (now (m .entry)) (numbered n (λ j. getD a j 0))) ⌝ }
+    ensures { λ r. ⌜ (said r ≡ answer (now (m .entry)) (numbered n (λ j. getD a j 0)))
+        × (now (m .exit) ≡ after (now (m .entry)) (numbered n (λ j. getD a j 0))) ⌝ }
 {
     match n {
-        0 => calls::format(m),
+        0 => calls::format(m, a[0]),
         1 => calls::create_partition(m, a),
         2 => calls::delete_partition(m, a[0]),
         3 => calls::add_vaddr(m, a[0], a[1], a[2], a[3]),
@@ -68,8 +68,8 @@ fn arguments(ws: &[u32], i: usize) -> [u32; 5]
 // The call that stands whole at word i.
 pub fn call(m: &mut [u32], ws: &[u32], i: usize) -> u64
     requires { ⌜ whole (now ws) i ≡ true ⌝ }
-    ensures { λ r. ⌜ (r ≡ packed (answer 6 (now (m .entry)) (callAt (now (ws .entry)) i)))
-        × (now (m .exit) ≡ after 6 (now (m .entry)) (callAt (now (ws .entry)) i)) ⌝ }
+    ensures { λ r. ⌜ (r ≡ packed (answer (now (m .entry)) (callAt (now (ws .entry)) i)))
+        × (now (m .exit) ≡ after (now (m .entry)) (callAt (now (ws .entry)) i)) ⌝ }
 {
     let n = pages::read(ws, i);
     let a = arguments(ws, i);

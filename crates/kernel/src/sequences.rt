@@ -7,8 +7,8 @@ ghost use lib.ListN.{length};
 ghost use Rattle.kernel.specs.Sequence.{endAt, whole};
 ghost use Rattle.kernel.specs.Ran.{Ran};
 
-// "How many arguments each call has is a fixed table": format's number is 0.
-const COUNTS: [usize; 13] = [0, 5, 1, 4, 2, 2, 3, 2, 1, 1, 0, 1, 2];
+// "How many arguments each call has is a fixed table": format's number is 0, and it has the edition.
+const COUNTS: [usize; 13] = [1, 5, 1, 4, 2, 2, 3, 2, 1, 1, 0, 1, 2];
 
 // Where the words of the call at word i end, or 0 where no whole call stands there.
 fn end(ws: &[u32], i: usize) -> usize

@@ -5,3 +5,4 @@ pub mod Pages
 pub mod Format
 pub mod Tables
 pub mod Widths
+pub mod Editions

@@ -5,15 +5,16 @@ use mathlib.Core.Bool.{cond, _&&_}
 use Prim.Native.Nat.{ℕ, _+_, _-_, _*_, _/_, _%_}
 use lib.Dec.{leb, ltb, eqb}
 use lib.ListN.{getD}
-use Rattle.memory.specs.Geometry.{pageWords, address, threesFor, flatPages}
+use Rattle.memory.specs.Geometry.{editionOf, pageWords, address, threesFor, flatPages}
 use Rattle.memory.specs.Words.{tabulate}
 use Rattle.memory.specs.Entry.{entry, allRights}
 
 module _ (b : ℕ) where
   -- "word 0 N; 1 T; 2 byte offset of the root descriptor (256); 3 byte offset of the first root page, 256(6+3T);
   --  4 physical address of the current partition's descriptor; the rest 0"; "Root is current."
+  -- Document 02, L4: "Page 0 word 5 is 0 for the old edition and 1 for this".
   abbrev pub headerWord : ℕ → ℕ → ℕ
-  headerWord n i = getD (n ∷ threesFor b n ∷ address b 1 ∷ address b (6 + 3 * threesFor b n) ∷ address b 1 ∷ []) i 0
+  headerWord n i = getD (n ∷ threesFor b n ∷ address b 1 ∷ address b (6 + 3 * threesFor b n) ∷ address b 1 ∷ editionOf b ∷ []) i 0
 
   -- "The root's virtual addresses in descriptor and list are 0, its parent 0."
   abbrev pub rootDescriptorWord : ℕ → ℕ

@@ -1,7 +1,22 @@
--- The geometry, from one number: the index width b. Document 01 is b = 6. Assumes nothing.
+-- The geometry, from one number: the index width b. Document 01 is b = 6, the old edition. Assumes nothing.
+use mathlib.Core.List.{List, [], _∷_}
+use mathlib.Core.Bool.{cond}
 use Prim.Native.Nat.{ℕ, _+_, _-_, _*_, _/_, _%_, _^_}
+use lib.Dec.{eqb}
+use lib.ListN.{getD}
+
+-- document 02, L4: "Geometry widths stand in a constant table by edition": 0 is "the old edition", 1 "the 10/10/12 split"
+abbrev pub widths : List ℕ
+widths = 6 ∷ 10 ∷ []
+
+abbrev pub widthOf : ℕ → ℕ
+widthOf e = getD widths e 0
 
 module _ (b : ℕ) where
+  -- the edition of the width b: any width but the old edition's is taken for the new one's
+  unfoldable pub editionOf : ℕ
+  editionOf = cond (eqb b (widthOf 0)) 0 1
+
   -- "A page is 64 words (256 bytes)."
   abbrev pub pageWords : ℕ
   pageWords = 2 ^ b

@@ -1,5 +1,6 @@
 pub mod Geometry
 pub mod Words
+pub mod Edition
 pub mod Entry
 pub mod Format
 pub mod Partition

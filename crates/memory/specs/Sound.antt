@@ -7,7 +7,7 @@ use mathlib.Core.Logic.{_≢_, _⊎_}
 use Prim.Native.Nat.{ℕ, _+_, _*_, _≤_, _<_}
 use lib.ListN.{length}
 use Rattle.walk.specs.Finite.{One}
-use Rattle.memory.specs.Geometry.{pageWords, address, pageOf, threesFor, flatPages, leastPages, mostPages, mostThrees, mostDepth}
+use Rattle.memory.specs.Geometry.{editionOf, pageWords, address, pageOf, threesFor, flatPages, leastPages, mostPages, mostThrees, mostDepth}
 use Rattle.memory.specs.Words.{word}
 use Rattle.memory.specs.Entry.{entry, accessible, rights, allRights, holds}
 use Rattle.memory.specs.Format.{formatWord}
@@ -26,7 +26,8 @@ module _ (b : ℕ) (m : List ℕ) where
     pub descriptor : word b m 0 2 ≡ address b 1
     pub first : word b m 0 3 ≡ address b (6 + 3 * threesFor b (pages b m))
     pub current : Physical b m (word b m 0 4)
-    pub rest : (i : ℕ) → i < pageWords b → 5 ≤ i → word b m 0 i ≡ 0
+    pub edition : word b m 0 5 ≡ editionOf b
+    pub rest : (i : ℕ) → i < pageWords b → 6 ≤ i → word b m 0 i ≡ 0
 
   -- "twelve words, pairs of virtual address in the parent and physical address ..; then 0 and the parent's descriptor address. The rest 0."
   pub record DescriptorForm (d : ℕ) : Type 0 where

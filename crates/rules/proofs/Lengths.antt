@@ -1,13 +1,11 @@
 -- No call changes the length of the memory, on any memory. Assumes nothing.
 use mathlib.Core.Path.{_≡_, refl, sym, _∙_}
 use mathlib.Core.List.{List, [], _∷_}
-use mathlib.Core.Bool.{Bool, true, false, not, _||_}
-use Prim.Native.Nat.{ℕ, zero, suc, _*_}
-use native.Mathlib.Nat.{suc-ne-zero}
-use borrow.Author.Tests.{eqb-true}
+use Prim.Native.Nat.{ℕ, zero, suc}
 use lib.Dec.{eqb}
 use lib.ListN.{length, length-set}
-use Rattle.memory.specs.Geometry.{pageWords, address}
+use Rattle.memory.specs.Edition.{width}
+use Rattle.memory.specs.Geometry.{address}
 use Rattle.memory.specs.Words.{fill}
 use Rattle.memory.specs.Entry.{accessible}
 use Rattle.memory.specs.Format.{format}
@@ -17,13 +15,16 @@ use Rattle.memory.proofs.Pages.{length-wipe}
 use Rattle.memory.proofs.Tables.{length-putTableWord}
 use Rattle.memory.proofs.Format.{length-tabulate}
 use Rattle.rules.specs.Refusal.{SIZE}
-use Rattle.rules.specs.Row.{_when_, first, pass}
+use Rattle.rules.specs.Row.{pass}
 use Rattle.rules.specs.Call.{Call, formatAll, createPartition, deletePartition, addVAddr, removeVAddr, pageCount, prepare, collect, mappedInChild, enter, leave, load, store}
 use Rattle.rules.specs.Moves.{mark, takePage, returnPage, takeAll, returnAll}
-use Rattle.rules.specs.Conditions.{pagesIn}
+use Rattle.rules.specs.Conditions.{unfit}
 use Rattle.rules.specs.Refusals.{refusals, refusal}
 use Rattle.rules.specs.Effects.{create, release, releaseAll, delete, add, remove, prepareThree, collectThree, effect}
-use Rattle.rules.specs.Calls.{after, run}
+use Rattle.rules.specs.Calls.{after}
+use Rattle.rules.specs.Editions as E
+use Rattle.rules.proofs.Rows.{clear}
+use Rattle.rules.proofs.Size.{fits}
 use Rattle.memory.proofs.Tables.{length-cond}
 
 module _ (b : ℕ) where
@@ -61,19 +62,9 @@ module _ (b : ℕ) where
   -- each effect but format's is made of stores
   ruleset stores = (length-set, length-overwrite, length-putTableWord, length-takeAll, length-returnAll, length-releaseAll)
 
-  -- "length isn't 64N" was not given: the length is 64N
-  sized : (s t u : Bool) → first ((SIZE when (not s || t || u)) ∷ []) ≡ 0 → s ≡ true
-  unfolding first
-  sized true t u e = refl
-  sized false t u e = absurd (suc-ne-zero 1 e)
-
-  whole : (m : List ℕ) → refusal b m formatAll ≡ 0 → length m ≡ pagesIn b m * pageWords b
-  unfolding refusals
-  whole m e = eqb-true _ _ (sized _ _ _ e)
-
   pub length-effect : (m : List ℕ) (c : Call) → refusal b m c ≡ 0 → length (effect b m c) ≡ length m
-  unfolding effect create delete add remove prepareThree collectThree format fill
-  length-effect m formatAll e = length-tabulate 0 _ _ ∙ sym (whole m e)
+  unfolding refusals effect create delete add remove prepareThree collectThree format fill
+  length-effect m (formatAll f) e = length-tabulate 0 _ _ ∙ sym (fits m f (clear SIZE (unfit f m) [] e .0) .size .whole)
   length-effect m (createPartition p d s t l) e = simp stores
   length-effect m (deletePartition c) e = simp stores
   length-effect m (addVAddr p c t r) e = simp stores
@@ -96,7 +87,7 @@ module _ (b : ℕ) where
       go zero e = length-effect m c e
       go (suc n) e = refl
 
-  pub length-run : (m : List ℕ) (cs : List Call) → length (run b m cs) ≡ length m
-  unfolding run
-  length-run m [] = refl
-  length-run m (c ∷ cs) = length-run (after b m c) cs ∙ length-after m c
+pub length-run : (m : List ℕ) (cs : List Call) → length (E.run m cs) ≡ length m
+unfolding E.run E.after
+length-run m [] = refl
+length-run m (c ∷ cs) = length-run (E.after m c) cs ∙ length-after (width m) m c

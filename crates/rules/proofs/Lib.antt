@@ -1,4 +1,6 @@
 pub mod Rows
+pub mod Choices
+pub mod Size
 pub mod Lengths
 pub mod Marks
 pub mod Turns

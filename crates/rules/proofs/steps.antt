@@ -41,3 +41,4 @@ pub mod PrepareCollect
 pub mod ThreeCarry
 pub mod ThreeCreate
 pub mod ThreeKept
+pub mod Editions

@@ -1,4 +1,4 @@
--- What each call answers and leaves, and a run of calls. Assumes nothing.
+-- What each call answers and leaves on memory that is read by the index width b. Assumes nothing.
 use mathlib.Core.List.{List, [], _∷_}
 use mathlib.Core.Bool.{cond}
 use Prim.Native.Nat.{ℕ, _+_, _*_}
@@ -15,7 +15,7 @@ use Rattle.rules.specs.Effects.{threePlace, wordAt, effect}
 module _ (b : ℕ) where
   -- "Success answers 0 unless said."
   unfoldable pub result : List ℕ → Call → ℕ
-  result m formatAll = 0
+  result m (formatAll e) = 0
   result m (createPartition p d s t l) = 0
   result m (deletePartition c) = 0
   result m (addVAddr p c t r) = 0
@@ -41,11 +41,7 @@ module _ (b : ℕ) where
   unfoldable pub after : List ℕ → Call → List ℕ
   after m c = pass (refusal b m c) (effect b m c) m
 
-  -- the memory after a list of calls, and the answers on the way
+  -- the memory after a list of calls, none of them a format that passes: the width stays
   unfoldable pub run : List ℕ → List Call → List ℕ
   run m [] = m
   run m (c ∷ cs) = run (after m c) cs
-
-  unfoldable pub answers : List ℕ → List Call → List Answer
-  answers m [] = []
-  answers m (c ∷ cs) = answer m c ∷ answers (after m c) cs

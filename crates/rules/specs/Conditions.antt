@@ -5,7 +5,7 @@ use Prim.Native.Nat.{ℕ, _*_, _/_, _%_}
 use lib.Dec.{leb, ltb, eqb}
 use lib.ListN.{length}
 use Rattle.walk.specs.Finite.{any}
-use Rattle.memory.specs.Geometry.{pageWords, pageBytes, addressEnd, pageOf, leastPages, mostPages, mostThrees, mostDepth}
+use Rattle.memory.specs.Geometry.{widths, widthOf, pageWords, pageBytes, addressEnd, pageOf, leastPages, mostPages, mostThrees, mostDepth}
 use Rattle.memory.specs.Words.{word, page}
 use Rattle.memory.specs.Entry.{accessible, holds}
 use Rattle.memory.specs.Partition.{current, parent, threes, tableFor, mapping, lent, inHand}
@@ -105,3 +105,7 @@ module _ (b : ℕ) where
       ++ inChain m (p ∷ []) (link m p)
       ++ inChain m (p ∷ link m p ∷ []) (link m (link m p))
       ++ (CHAIN when not (eqb (link m (link m (link m p))) 0) ∷ [])
+
+-- 2, of format for edition e: "format takes the choice and any other value is refused with 2" (document 02, L4)
+abbrev pub unfit : ℕ → List ℕ → Bool
+unfit e m = leb (length widths) e || wrongSize (widthOf e) m

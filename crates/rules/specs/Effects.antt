@@ -4,7 +4,7 @@ use mathlib.Core.Bool.{cond}
 use Prim.Native.Nat.{ℕ, zero, suc, _+_, _-_, _*_, _/_}
 use lib.Dec.{eqb}
 use lib.ListN.{getD, set, take, drop, replicate}
-use Rattle.memory.specs.Geometry.{pageWords, address, pageOf, directoryIndex, place}
+use Rattle.memory.specs.Geometry.{widthOf, pageWords, address, pageOf, directoryIndex, place}
 use Rattle.memory.specs.Words.{index, page, word, put, overwrite, fill}
 use Rattle.memory.specs.Entry.{entry, accessible}
 use Rattle.memory.specs.Format.{format}
@@ -118,7 +118,7 @@ module _ (b : ℕ) where
   wordAt m a = index b (pageOf b (mapping b m (current b m) a)) (place b a / 4)
 
   unfoldable pub effect : List ℕ → Call → List ℕ
-  effect m formatAll = format b (pagesIn b m)
+  effect m (formatAll e) = format (widthOf e) (pagesIn (widthOf e) m)
   effect m (createPartition p d s t l) = create m (current b m) (p ∷ d ∷ s ∷ t ∷ l ∷ []) p l
   effect m (deletePartition c) = delete m (current b m) c
   effect m (addVAddr p c t r) = add m (current b m) p c t r

@@ -6,6 +6,8 @@ pub mod Conditions
 pub mod Refusals
 pub mod Effects
 pub mod Calls
+pub mod Editions
+pub mod Permitted
 pub mod SameChain
 pub mod Bytes
 pub mod Record

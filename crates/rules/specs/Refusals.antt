@@ -9,11 +9,12 @@ use Rattle.memory.specs.Partition.{current, inHand}
 use Rattle.rules.specs.Refusal.{DAMAGED, SIZE, ADDRESS, TWICE, CHILD, RIGHTS, HAND, TABLE, TAKEN, LIST, FULL-TABLE, DEPTH, ROOT, UNMAPPED, KERNEL}
 use Rattle.rules.specs.Row.{Check, _when_, first}
 use Rattle.rules.specs.Call.{Call, formatAll, createPartition, deletePartition, addVAddr, removeVAddr, pageCount, prepare, collect, mappedInChild, enter, leave, load, store}
-use Rattle.rules.specs.Conditions.{twice, damaged, wrongSize, badAddress, badPage, noChild, child, lacks, notInHand, noThree, unmapped, mapped, listFull, anyMapping, tooDeep, atRoot, inaccessible, chain}
+use Rattle.rules.specs.Conditions.{twice, damaged, badAddress, badPage, noChild, child, lacks, notInHand, noThree, unmapped, mapped, listFull, anyMapping, tooDeep, atRoot, inaccessible, chain, unfit}
 
 module _ (b : ℕ) where
   unfoldable pub refusals : List ℕ → Call → List Check
-  refusals m formatAll = SIZE when wrongSize b m ∷ []
+  -- 2: format reads no word, so the width b is of no account
+  refusals m (formatAll e) = SIZE when unfit e m ∷ []
   -- 1 3 4 7 6 13
   refusals m (createPartition p d s t l) =
       let five = p ∷ d ∷ s ∷ t ∷ l ∷ [] in

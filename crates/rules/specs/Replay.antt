@@ -10,7 +10,7 @@ use Rattle.memory.specs.Format.{format}
 use Rattle.rules.specs.Bytes.{wordIn}
 use Rattle.rules.specs.Row.{Answer, ok, no}
 use Rattle.rules.specs.Call.{Call, createPartition, deletePartition, addVAddr, removeVAddr, pageCount, prepare, collect, mappedInChild, enter, leave, load, store}
-use Rattle.rules.specs.Calls.{answers}
+use Rattle.rules.specs.Editions.{answers}
 
 -- ---- the script
 
@@ -96,7 +96,7 @@ badScript = 98 ∷ 97 ∷ 100 ∷ 32 ∷ 115 ∷ 99 ∷ 114 ∷ 105 ∷ 112 ∷ 
 
 unfoldable pub replayed : ℕ → ℕ → Option (List Call) → List ℕ
 replayed b n none = badScript
-replayed b n (some cs) = transcript b n (answers b (format b n) cs)
+replayed b n (some cs) = transcript b n (answers (format b n) cs)
 
 unfoldable pub replay : ℕ → List ℕ → List ℕ
 replay b bs = replayed b (wordIn bs 0) (script b bs)

@@ -2,6 +2,7 @@
 use mathlib.Core.Path.{_≡_}
 use mathlib.Core.Logic.{_≢_}
 use mathlib.Core.List.{List, [], _∷_}
+use mathlib.Core.Option.{none}
 use Prim.Native.Nat.{ℕ, _+_, _*_, _<_}
 use Rattle.memory.specs.Geometry.{pageWords, pageOf, directoryIndex}
 use Rattle.memory.specs.Words.{word}
@@ -9,7 +10,7 @@ use Rattle.memory.specs.Partition.{list, threes}
 use Rattle.memory.specs.Tree.{InTree}
 use Rattle.memory.specs.Sound.{Stands}
 use Rattle.rules.specs.Row.{ok}
-use Rattle.rules.specs.Call.{Call, formatAll, prepare, collect}
+use Rattle.rules.specs.Call.{Call, prepare, collect, choice}
 use Rattle.rules.specs.Conditions.{child, link}
 use Rattle.rules.specs.Refusals.{refusal}
 use Rattle.rules.specs.Calls.{answer, after, run}
@@ -36,7 +37,7 @@ module _ (b : ℕ) where
   pub record Spares (m : List ℕ) (d i : ℕ) (x : Call) : Type 0 where
     pub before : (k : ℕ) × InTree b m k d
     pub afterwards : (k : ℕ) × InTree b (after b m x) k d
-    pub noFormat : x ≢ formatAll
+    pub noFormat : choice x ≡ none
     pub noCollect : (c t : ℕ) → x ≡ collect c t → refusal b m (collect c t) ≡ 0 → child b m c ≡ d → directoryIndex b (pageOf b t) ≢ i
 
   -- each of a list of calls is such a call

@@ -15,7 +15,7 @@ fn main() {
         if n == 0 {
             return;
         }
-        if 16448 < n {
+        if 20480 < n {
             return;
         }
         run_memory(n);

@@ -74,9 +74,9 @@ fn run_all(m: &mut [u32]) {
 
 // A memory of n words.
 pub fn run_memory(n: u32)
-    requires { ⌜ n ≤ 16448 ⌝ }
+    requires { ⌜ n ≤ 20480 ⌝ }
 {
-    let mut m = [7u32; 16448];
+    let mut m = [7u32; 20480];
     let end = n as usize;
     run_all(&mut m[0..end]);
 }

@@ -10,7 +10,7 @@ use Rattle.memory.specs.Format.{format}
 use Rattle.rules.specs.Row.{Answer, ok, no}
 use Rattle.rules.specs.Bytes.{wordIn}
 use Rattle.rules.specs.Call.{Call}
-use Rattle.rules.specs.Calls.{answers, after}
+use Rattle.rules.specs.Editions.{answers, after}
 use Rattle.rules.specs.Replay.{decimal, line, lines, transcript, script, replayed, replay}
 use Rattle.script.specs.Lines.{firstLine}
 use Rattle.script.proofs.Decimals.{decimal-most}
@@ -46,10 +46,10 @@ module _ (b : ℕ) where
   pub transcript-most : (n : ℕ) (said : List Answer) → length (transcript b n said) ≤ 22 + 25 * length said
   transcript-most n said = omega (arith, ap length (transcript-is n said), length-append (firstLine b n) (lines 1 said), first-most n, lines-most 1 said)
 
-  answers-length : (m : List ℕ) (cs : List Call) → length (answers b m cs) ≡ length cs
+  answers-length : (m : List ℕ) (cs : List Call) → length (answers m cs) ≡ length cs
   unfolding answers
   answers-length m [] = refl
-  answers-length m (c ∷ cs) = ap suc (answers-length (after b m c) cs)
+  answers-length m (c ∷ cs) = ap suc (answers-length (after m c) cs)
 
   -- "Input, at most 4,096 bytes": the header has 12, and a record four or more
   pub script-most : (bs : List ℕ) (cs : List Call) → script b bs ≡ some cs → length cs ≤ 1021
@@ -66,4 +66,4 @@ module _ (b : ℕ) where
       pick none e = omega arith
       pick (some cs) e =
           let m = format b (wordIn bs 0) in
-          omega (arith, transcript-most (wordIn bs 0) (answers b m cs), answers-length m cs, script-most bs cs e)
+          omega (arith, transcript-most (wordIn bs 0) (answers m cs), answers-length m cs, script-most bs cs e)

@@ -10,7 +10,7 @@ use Rattle.memory.specs.Format.{format}
 use Rattle.rules.specs.Row.{Answer}
 use Rattle.rules.specs.Bytes.{wordIn}
 use Rattle.rules.specs.Call.{Call}
-use Rattle.rules.specs.Calls.{answer, after, answers}
+use Rattle.rules.specs.Editions.{answer, after, answers}
 use Rattle.rules.specs.Replay.{line, lines, badScript, records, script, replayed, replay}
 use Rattle.script.specs.Walk.{isScript, wholeRecord, nextRecord, callAt}
 use Rattle.script.specs.Lines.{Put, firstLine}
@@ -39,7 +39,7 @@ pub record Walking (b : ℕ) (bs before : List ℕ) (n i k at : ℕ) (m out : Li
   pub printed : List ℕ
   pub left : records n bs i ≡ some rest
   pub put : Put before out 0 at printed
-  pub whole : replay b bs ≡ printed ++ lines (k + 1) (answers b m rest)
+  pub whole : replay b bs ≡ printed ++ lines (k + 1) (answers m rest)
   pub room : at ≤ 22 + 25 * k
   pub most : k + n ≤ 1021
 
@@ -61,7 +61,7 @@ module _ (b : ℕ) (bs before : List ℕ) where
         printed = firstLine b (wordIn bs 0);
         left = r;
         put = p;
-        whole = ap (replayed b (wordIn bs 0)) s ∙ transcript-is b (wordIn bs 0) (answers b (format b (wordIn bs 0)) cs);
+        whole = ap (replayed b (wordIn bs 0)) s ∙ transcript-is b (wordIn bs 0) (answers (format b (wordIn bs 0)) cs);
         room = omega (arith, p .next, first-most b (wordIn bs 0));
         most = omega (arith, few bs (wordIn bs 4) (wordIn bs 8) cs r, script-most b bs cs s);
       }
@@ -75,13 +75,13 @@ module _ (b : ℕ) (bs before : List ℕ) where
     room-here h = omega (arith, w .room, w .most)
 
     -- ".. then a line for each record"
-    pub goes-on : {next : ℕ} {wider : List ℕ} → 0 < n → Put out wider at next (line (k + 1) (answer b m (callAt bs i)))
-        → Walking b bs before (n - 1) (nextRecord bs i) (k + 1) next (after b m (callAt bs i)) wider
+    pub goes-on : {next : ℕ} {wider : List ℕ} → 0 < n → Put out wider at next (line (k + 1) (answer m (callAt bs i)))
+        → Walking b bs before (n - 1) (nextRecord bs i) (k + 1) next (after m (callAt bs i)) wider
     unfolding answers
     goes-on h p =
         let s = step bs n i (w .rest) h (w .left) in
-        let a = answer b m (callAt bs i) in
-        let later = answers b (after b m (callAt bs i)) (s .rest) in
+        let a = answer m (callAt bs i) in
+        let later = answers (after m (callAt bs i)) (s .rest) in
         record {
           rest = s .rest;
           printed = w .printed ++ line (k + 1) a;
@@ -89,7 +89,7 @@ module _ (b : ℕ) (bs before : List ℕ) where
           put = put-then (w .put) p;
           whole =
               w .whole
-              ∙ ap (λ (cs : List Call). w .printed ++ lines (k + 1) (answers b m cs)) (s .first)
+              ∙ ap (λ (cs : List Call). w .printed ++ lines (k + 1) (answers m cs)) (s .first)
               ∙ ap (λ (l : List ℕ). w .printed ++ l) (lines-more (k + 1) a later)
               ∙ sym (append-assoc (w .printed) (line (k + 1) a) (lines (k + 1 + 1) later));
           room = omega (arith, w .room, p .next, line-most (k + 1) a);
@@ -100,4 +100,4 @@ module _ (b : ℕ) (bs before : List ℕ) where
     unfolding answers lines
     over e =
         let r = done bs i (w .rest) (ap (λ (j : ℕ). records j bs i) (sym e) ∙ w .left) .1 in
-        put-same (sym (w .whole ∙ ap (λ (cs : List Call). w .printed ++ lines (k + 1) (answers b m cs)) r ∙ append-nil (w .printed))) (w .put)
+        put-same (sym (w .whole ∙ ap (λ (cs : List Call). w .printed ++ lines (k + 1) (answers m cs)) r ∙ append-nil (w .printed))) (w .put)

@@ -9,7 +9,7 @@ use lib.ListN.{length, getD}
 use Rattle.walk.specs.Finite.{from, all, any, image, once}
 use Rattle.walk.specs.Marks.{Seen}
 use Rattle.walk.specs.Walk as W
-use Rattle.memory.specs.Geometry.{pageWords, addressEnd, address, pageOf, threesFor, flatPages, leastPages, mostPages, mostThrees, mostDepth}
+use Rattle.memory.specs.Geometry.{editionOf, pageWords, addressEnd, address, pageOf, threesFor, flatPages, leastPages, mostPages, mostThrees, mostDepth}
 use Rattle.memory.specs.Words.{word}
 use Rattle.memory.specs.Entry.{entry, accessible, rights, allRights, holds}
 use Rattle.memory.specs.Format.{formatWord}
@@ -30,8 +30,8 @@ module _ (b : ℕ) (m : List ℕ) where
   headerTest =
       eqb (length m) (pages b m * pageWords b) && leb leastPages (pages b m) && leb (pages b m) (mostPages b)
       && eqb (word b m 0 1) (threesFor b (pages b m)) && eqb (word b m 0 2) (address b 1) && eqb (word b m 0 3) (address b (6 + 3 * threesFor b (pages b m)))
-      && physical (word b m 0 4)
-      && all (λ i. not (leb 5 i) || eqb (word b m 0 i) 0) (from (pageWords b) 0)
+      && physical (word b m 0 4) && eqb (word b m 0 5) (editionOf b)
+      && all (λ i. not (leb 6 i) || eqb (word b m 0 i) 0) (from (pageWords b) 0)
 
   unfoldable pub descriptorTest : ℕ → Bool
   descriptorTest d =

@@ -1,6 +1,7 @@
 // The start-up record of a lent memory, written: the judge is asked first.
 use answers::Answer;
 ghost use mathlib.Core.Path.{_≡_};
+ghost use Rattle.memory.specs.Edition.{width};
 ghost use Rattle.answers.specs.Said.{said};
 ghost use Rattle.rules.specs.Record.{writerAnswer, afterWriter};
 
@@ -8,11 +9,11 @@ ghost use Rattle.rules.specs.Record.{writerAnswer, afterWriter};
 pub fn write_record(m: &[u32], revision: &[u8], out: &mut [u8]) -> Answer
     ensures { λ r.
         ⌜
-        (said r ≡ writerAnswer 6 (now (m .entry)) (now (revision .entry)) (now (out .entry)))
-        × (now (out .exit) ≡ afterWriter 6 (now (m .entry)) (now (revision .entry)) (now (out .entry)))
+        (said r ≡ writerAnswer (width (now (m .entry))) (now (m .entry)) (now (revision .entry)) (now (out .entry)))
+        × (now (out .exit) ≡ afterWriter (width (now (m .entry))) (now (m .entry)) (now (revision .entry)) (now (out .entry)))
         ⌝ }
 {
-    let b = pages::width();
+    let b = pages::width(m);
     let good = judge::is_sound(m);
     record::write(b, m, good, revision, out)
 }

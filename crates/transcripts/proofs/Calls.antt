@@ -10,7 +10,7 @@ use lib.ListN.{getD}
 use borrow.Author.Tests.{lt-ltb, le-ltb, le-leb}
 use Rattle.rules.specs.Bytes.{wordIn}
 use Rattle.rules.specs.Row.{Answer}
-use Rattle.rules.specs.Calls.{answer, after}
+use Rattle.rules.specs.Editions.{answer, after}
 use Rattle.rules.specs.Replay.{argumentCount, callOf}
 use Rattle.script.specs.Walk.{wholeRecord, argumentAt, callAt}
 use Rattle.script.proofs.Walks.{whole?}
@@ -50,10 +50,10 @@ module _ (m bs : List ℕ) (i : ℕ) {n : ℕ} {a : List ℕ} (w : wholeRecord b
   known : leb n 12 ≡ true
   known = le-leb n 12 (omega (arith, e, whole? bs i .0 w .0 .1))
 
-  recorded : calledAnswer m n a ≡ some (answer 6 m (callAt bs i))
-  recorded = ap (λ t. cond t (some (answer 6 m (calledBy m n a))) none) known ∙ ap (λ c. some (answer 6 m c)) is-record
+  recorded : calledAnswer m n a ≡ some (answer m (callAt bs i))
+  recorded = ap (λ t. cond t (some (answer m (calledBy m n a))) none) known ∙ ap (λ c. some (answer m c)) is-record
 
-  pub record-answer : {o : Option Answer} {x : Answer} → o ≡ some x → o ≡ calledAnswer m n a → x ≡ answer 6 m (callAt bs i)
+  pub record-answer : {o : Option Answer} {x : Answer} → o ≡ some x → o ≡ calledAnswer m n a → x ≡ answer m (callAt bs i)
   record-answer p q = let r = q ∙ recorded in cc
 
   -- a record's number is known
@@ -62,5 +62,5 @@ module _ (m bs : List ℕ) (i : ℕ) {n : ℕ} {a : List ℕ} (w : wholeRecord b
       let r = q ∙ recorded in
       let z : _≡_ {A = ℕ} 0 1 = cc in omega arith
 
-  pub record-after : {m′ : List ℕ} → m′ ≡ calledAfter m n a → m′ ≡ after 6 m (callAt bs i)
-  record-after p = p ∙ ap (λ t. cond t (after 6 m (calledBy m n a)) m) known ∙ ap (λ c. after 6 m c) is-record
+  pub record-after : {m′ : List ℕ} → m′ ≡ calledAfter m n a → m′ ≡ after m (callAt bs i)
+  record-after p = p ∙ ap (λ t. cond t (after m (calledBy m n a)) m) known ∙ ap (λ c. after m c) is-record

@@ -5,16 +5,13 @@ use mathlib.Core.List.{List}
 use Prim.Native.Nat.{ℕ, _*_, _≤_}
 use native.Mathlib.Omega.{arith}
 use lib.ListN.{length}
-use borrow.Author.Tests.{eq-eqb, le-ltb}
 use Rattle.memory.specs.Format.{format}
 use Rattle.rules.specs.Bytes.{wordIn}
 use Rattle.rules.specs.Call.{formatAll}
-use Rattle.rules.specs.Conditions.{pagesIn, wrongSize}
-use Rattle.rules.specs.Refusals.{refusals}
-use Rattle.rules.specs.Effects.{effect}
-use Rattle.rules.specs.Calls.{after}
+use Rattle.rules.specs.Conditions.{pagesIn}
+use Rattle.rules.specs.Editions.{after}
 use Rattle.rules.specs.Replay.{script}
-use Rattle.rules.proofs.Rows.{none, on, after-ok}
+use Rattle.rules.proofs.steps.Editions.{format-leaves}
 use Rattle.script.specs.Walk.{isScript, goodHeader}
 use Rattle.script.proofs.Heads.{header?, no-header}
 
@@ -34,10 +31,8 @@ header bs e = pick (goodHeader 6 bs) refl
 pub checked : (bs : List ℕ) {b : ℕ} {r t : Bool} → b ≡ 6 → r ≡ isScript (script b bs) → r ≡ t → isScript (script 6 bs) ≡ t
 checked bs e f g = ap (λ (b : ℕ). isScript (script b bs)) (sym e) ∙ sym f ∙ g
 
--- format passes on N pages, and leaves the words of format
-pub formatted : (m : List ℕ) (n : ℕ) → length m ≡ n * 64 → 16 ≤ n → n ≤ 256 → after 6 m formatAll ≡ format 6 n
-unfolding refusals effect
+-- format of the old edition passes on N pages, and leaves the words of format
+pub formatted : (m : List ℕ) (n : ℕ) → length m ≡ n * 64 → 16 ≤ n → n ≤ 256 → after m (formatAll 0) ≡ format 6 n
 formatted m n l h k =
     let p : pagesIn 6 m ≡ n = omega arith in
-    let g : wrongSize 6 m ≡ false = rw (eq-eqb (length m) (pagesIn 6 m * 64) (omega arith), le-ltb (pagesIn 6 m) 16 (omega arith), le-ltb 256 (pagesIn 6 m) (omega arith)) refl in
-    after-ok 6 m formatAll (on g none) ∙ ap (format 6) p
+    format-leaves m 0 (record { known = omega arith; size = record { whole = omega arith; least = omega arith; most = omega arith } }) ∙ ap (format 6) p

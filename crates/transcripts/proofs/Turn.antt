@@ -10,7 +10,7 @@ use Rattle.memory.specs.Format.{format}
 use Rattle.memory.proofs.Overwrite.{length-overwrite}
 use Rattle.rules.specs.Row.{Answer}
 use Rattle.rules.specs.Bytes.{wordIn}
-use Rattle.rules.specs.Calls.{answer, after}
+use Rattle.rules.specs.Editions.{answer, after}
 use Rattle.rules.specs.Replay.{line, script, replay}
 use Rattle.script.specs.Walk.{isScript, nextRecord, callAt}
 use Rattle.script.specs.Lines.{Put, firstLine}
@@ -52,7 +52,7 @@ module _ (bs : List ℕ) where
 
   -- the record at byte i is done, and its line put
   pub turn : {before m m′ out wider : List ℕ} {n i i′ k at next : ℕ} {a : Answer} → Walking 6 bs before n i k at m out → 0 < n
-      → a ≡ answer 6 m (callAt bs i) → m′ ≡ after 6 m (callAt bs i) → Put out wider at next (line (k + 1) a) → i′ ≡ nextRecord bs i
+      → a ≡ answer m (callAt bs i) → m′ ≡ after m (callAt bs i) → Put out wider at next (line (k + 1) a) → i′ ≡ nextRecord bs i
       → Walking 6 bs before (n - 1) i′ (k + 1) next m′ wider
   turn {before} {k = k} w h a s p e = rw (s, e) (goes-on 6 bs before w h (put-same (ap (line (k + 1)) a) p))
 

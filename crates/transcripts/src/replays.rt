@@ -2,7 +2,7 @@
 use crate::turns::transcribe;
 use kernel::format;
 use pages::page_words;
-use pages::width;
+use pages::width_of;
 use record::word_in;
 use script::put_bad_script;
 use script::well_formed;
@@ -20,7 +20,7 @@ fn memory_words(bytes: &[u8]) -> usize
     requires { ⌜ isScript (Replay.script 6 (now bytes)) ≡ true ⌝ }
     ensures { λ r. ⌜ (r ≡ wordIn (now (bytes .entry)) 0 * 64) × (r ≤ 16384) ⌝ }
 {
-    word_in(bytes, 0) as usize * page_words(width()) as usize
+    word_in(bytes, 0) as usize * page_words(width_of(0)) as usize
 }
 
 // Room for a memory of 256 pages, the most there are.
@@ -30,14 +30,14 @@ fn most_words() -> [u32; 16384]
     [0; 16384]
 }
 
-// Formats m, a memory of N pages, and runs the script on it.
+// Formats m, a memory of N pages of the old edition, and runs the script on it.
 fn run(bytes: &[u8], m: &mut [u32], out: &mut [u8]) -> usize
     requires { ⌜ isScript (Replay.script 6 (now bytes)) ≡ true ⌝ }
     requires sized { ⌜ length (now m) ≡ wordIn (now bytes) 0 * 64 ⌝ }
     requires room { ⌜ 32768 ≤ length (now out) ⌝ }
     ensures { λ r. ⌜ Put (now (out .entry)) (now (out .exit)) 0 r (Replay.replay 6 (now (bytes .entry))) ⌝ }
 {
-    format(m);
+    format(m, 0);
     transcribe(bytes, m, out)
 }
 
@@ -45,7 +45,7 @@ fn run(bytes: &[u8], m: &mut [u32], out: &mut [u8]) -> usize
 pub fn replay(bytes: &[u8], out: &mut [u8; 32768]) -> usize
     ensures { λ r. ⌜ Put (now (out .entry)) (now (out .exit)) 0 r (Replay.replay 6 (now (bytes .entry))) × (r ≤ length (now (out .exit))) ⌝ }
 {
-    if !well_formed(width(), bytes) {
+    if !well_formed(width_of(0), bytes) {
         return put_bad_script(out);
     }
     let mut words = most_words();

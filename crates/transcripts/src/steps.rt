@@ -8,7 +8,7 @@ use script::argument_count;
 ghost use mathlib.Core.Path.{_≡_};
 ghost use mathlib.Core.Bool.{true};
 ghost use Rattle.rules.specs.Bytes.{wordIn};
-ghost use Rattle.rules.specs.Calls.{answer, after};
+ghost use Rattle.rules.specs.Editions.{answer, after};
 ghost use Rattle.answers.specs.Said.{said};
 ghost use Rattle.script.specs.Walk.{wholeRecord, argumentAt, callAt};
 ghost use Rattle.transcripts.specs.Held.{heldAt, fiveAt};
@@ -41,8 +41,8 @@ fn arguments(bytes: &[u8], i: usize) -> [u32; 5]
 // The call of the record that starts at byte i. Its number is known, so that the last arm is never taken.
 pub fn step(m: &mut [u32], bytes: &[u8], i: usize) -> Answer
     requires { ⌜ wholeRecord (now bytes) i ≡ true ⌝ }
-    ensures { λ r. ⌜ (said r ≡ answer 6 (now (m .entry)) (callAt (now (bytes .entry)) i))
-        × (now (m .exit) ≡ after 6 (now (m .entry)) (callAt (now (bytes .entry)) i)) ⌝ }
+    ensures { λ r. ⌜ (said r ≡ answer (now (m .entry)) (callAt (now (bytes .entry)) i))
+        × (now (m .exit) ≡ after (now (m .entry)) (callAt (now (bytes .entry)) i)) ⌝ }
 {
     let n = word_in(bytes, i);
     let a = arguments(bytes, i);

@@ -1,6 +1,6 @@
 // "Otherwise a line `N F`, then a line for each record."
 use crate::steps::step;
-use pages::width;
+use pages::width_of;
 use record::word_in;
 use script::next_record;
 use script::put_answer;
@@ -22,7 +22,7 @@ pub fn transcribe(bytes: &[u8], m: &mut [u32], out: &mut [u8]) -> usize
     requires room { ⌜ 32768 ≤ length (now out) ⌝ }
     ensures { λ r. ⌜ Put (now (out .entry)) (now (out .exit)) 0 r (Replay.replay 6 (now (bytes .entry))) ⌝ }
 {
-    let mut at = put_first_line(width(), word_in(bytes, 0), out);
+    let mut at = put_first_line(width_of(0), word_in(bytes, 0), out);
     let mut n = word_in(bytes, 4);
     let mut i = word_in(bytes, 8) as usize;
     let mut k = 0;

@@ -1,7 +1,7 @@
 //! A call by its number and arguments, made in either version.
 
 use crate::ordinary::{self, Answer};
-use tumashqin::{Memory, Refusal};
+use tumashqin::{Edition, Memory, Refusal};
 
 /// By number; format has none, and stands at 0.
 pub const NAMES: [&str; 13] = [
@@ -62,7 +62,7 @@ impl Call {
     pub fn proved(&self, words: &mut [u32]) -> Answer {
         let [a, b, c, d, _] = self.arguments;
         let mut memory = match self.number {
-            0 => return Memory::format(words).map(|_| 0).map_err(Refusal::number),
+            0 => return Memory::format(words, Edition::Pages256).map(|_| 0).map_err(Refusal::number),
             _ => Memory::over(words),
         };
         let answer = match self.number {

@@ -115,7 +115,7 @@ fn often(m: &mut [u32]) {
 /// Each page handed to the root is the descriptor of a child, but for the pages that all the children share.
 fn all_children(pages: usize) -> Vec<u32> {
     let mut m = vec![0; PAGE * pages];
-    let _ = second::calls::format(&mut m);
+    let _ = second::calls::format(&mut m, 0);
     let flat: Vec<_> = {
         let root = Partition::at(&m, PPage(1));
         root.mappings(&m).map(|(v, mapping)| (v, mapping.page)).collect()

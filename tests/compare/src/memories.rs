@@ -31,7 +31,7 @@ fn judge(mem: &[u32], random: &mut Random, tally: &mut Tally) -> Result<(), Stri
     if result.is_ok() && random.once_in(8) {
         result = records::compare(&mut proved, random, tally)
             .and_then(|()| perform(&mut proved, &mut second, &[10], tally))
-            .and_then(|()| perform(&mut proved, &mut second, &[0], tally));
+            .and_then(|()| perform(&mut proved, &mut second, &[0, 0], tally));
     }
     result.map_err(|text| format!("memory that breaks {sentences:?}: {text}"))
 }
@@ -39,7 +39,7 @@ fn judge(mem: &[u32], random: &mut Random, tally: &mut Tally) -> Result<(), Stri
 /// Addresses that may well be good.
 fn any_call(number: usize, random: &mut Random) -> Vec<u32> {
     let mut line = vec![number as u32];
-    line.extend((0..ARGUMENTS[number - 1]).map(|_| PAGE_BYTES * random.below(300) as u32));
+    line.extend((0..ARGUMENTS[number - 1]).map(|_| page_bytes() * random.below(300) as u32));
     line
 }
 
@@ -71,9 +71,9 @@ pub fn one_too_deep(mem: &[u32], line: &[u32], random: &mut Random, tally: &mut 
 /// Random words, all the same word, and words like the kernel's behind a good header.
 pub fn any_words(pages: usize, random: &mut Random, tally: &mut Tally) -> Result<(), String> {
     let mut like: Vec<u32> = vec![0; pages * PAGE_WORDS];
-    let _ = format(&mut like);
+    let _ = format(&mut like, 0);
     for word in &mut like[5..] {
-        let address = PAGE_BYTES * random.below(pages + 2) as u32;
+        let address = page_bytes() * random.below(pages + 2) as u32;
         if !random.once_in(3) {
             *word = random.pick(&[0, 0, 1, address, address + 1, address + 29, address + 31]).unwrap_or(0);
         }
@@ -90,7 +90,7 @@ pub fn other_length(random: &mut Random, tally: &mut Tally) -> Result<(), String
     let mut second: Vec<u32> = (0..length).map(|_| random.draw() as u32).collect();
     let mut proved = second.clone();
     verdict(&proved, tally).map_err(|text| format!("memory of {length} words: {text}"))?;
-    for line in std::iter::once(vec![0]).chain((1..=12).map(|number| any_call(number, random))) {
+    for line in std::iter::once(vec![0, 0]).chain((1..=12).map(|number| any_call(number, random))) {
         perform(&mut proved, &mut second, &line, tally).map_err(|text| format!("memory of {length} words: {text}"))?;
     }
     Ok(())

@@ -1,12 +1,13 @@
 //! The proved kernel, by its C interface.
 
 use second::calls::Answer;
-use tumashqin::{Memory, Refusal};
+use tumashqin::{Edition, Memory, Refusal};
 
 /// Performs a call by its number, 0 for format.
 pub fn call(words: &mut [u32], line: &[u32]) -> Answer {
-    if line == [0] {
-        return Memory::format(words).map(|_| 0).map_err(Refusal::number);
+    if let [0, edition] = *line {
+        let edition = if edition == 0 { Edition::Pages256 } else { Edition::Pages4096 };
+        return Memory::format(words, edition).map(|_| 0).map_err(Refusal::number);
     }
     let mut memory = Memory::over(words);
     let answer = match *line {

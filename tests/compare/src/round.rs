@@ -33,7 +33,7 @@ fn sequence(
 ) -> Result<(), String> {
     let mut second: Vec<u32> = (0..pages * PAGE_WORDS).map(|_| random.draw() as u32).collect();
     let mut proved = second.clone();
-    perform(&mut proved, &mut second, &[0], tally)?;
+    perform(&mut proved, &mut second, &[0, 0], tally)?;
     let (mut index, mut result) = (0, Ok(()));
     guide(&mut second, &mut guiding, CALLS, |line, answer, after| {
         if result.is_err() {

@@ -19,8 +19,8 @@ struct Look<'a> {
 type Way = (&'static str, fn(&Look) -> bool);
 
 const WAYS: [Way; 23] = [
-    ("any call no 3: 2^20 or above", |l| l.address(|address| address >= VIRTUAL_END)),
-    ("any call no 3: on page 0", |l| l.address(|address| address < PAGE_BYTES)),
+    ("any call no 3: 2^20 or above", |l| l.address(|address| u64::from(address) >= virtual_end())),
+    ("any call no 3: on page 0", |l| l.address(|address| address < page_bytes())),
     ("any call no 3: not a multiple", |l| l.address(|address| address % l.multiple() != 0)),
     ("createPartition ok: the child is 8 below the root", |l| l.ok(1) && l.depth() == MOST_DEPTH - 1),
     ("deletePartition ok: the child has children", |l| l.ok(2) && l.child().is_some_and(|c| has_children(l.mem, &c))),
@@ -68,7 +68,7 @@ impl Look<'_> {
         if matches!(self.line[0], 11 | 12) {
             4
         } else {
-            PAGE_BYTES
+            page_bytes()
         }
     }
 

@@ -11,10 +11,17 @@ pub type Answer = Result<u32, u32>;
 /// How many arguments each call has, by its number from 1.
 pub const ARGUMENTS: [usize; 12] = [5, 1, 4, 2, 2, 3, 2, 1, 1, 0, 1, 2];
 
-/// Performs a call by its number, 0 for format; none when the number or the argument count is wrong.
+/// Performs a call by its number, 0 for format, as of the memory's edition; none when the number or the argument count is wrong.
 pub fn call(mem: &mut [u32], number: u32, arguments: &[u32]) -> Option<Answer> {
+    read_as(mem);
+    let answer = numbered(mem, number, arguments);
+    read_as(mem);
+    answer
+}
+
+fn numbered(mem: &mut [u32], number: u32, arguments: &[u32]) -> Option<Answer> {
     Some(match (number, arguments) {
-        (0, []) => format(mem),
+        (0, &[edition]) => format(mem, edition),
         (1, &[a, b, c, d, e]) => create_partition(mem, [a, b, c, d, e]),
         (2, &[child]) => delete_partition(mem, child),
         (3, &[page, child, target, rights]) => add_vaddr(mem, page, child, target, rights),
@@ -44,11 +51,11 @@ fn caller_of(mem: &[u32]) -> Result<Partition, u32> {
 }
 
 fn good_address(address: u32, multiple: u32) -> bool {
-    (PAGE_BYTES..VIRTUAL_END).contains(&address) && address.is_multiple_of(multiple)
+    (u64::from(page_bytes())..virtual_end()).contains(&address.into()) && address.is_multiple_of(multiple)
 }
 
 fn page_addresses<const K: usize>(addresses: [u32; K]) -> Result<[VPage; K], u32> {
-    require(addresses.iter().all(|&a| good_address(a, PAGE_BYTES)), ADDRESS)?;
+    require(addresses.iter().all(|&a| good_address(a, page_bytes())), ADDRESS)?;
     Ok(addresses.map(VPage::of))
 }
 
@@ -105,11 +112,14 @@ fn give_back(mem: &mut [u32], caller: &Partition, at: VPage) {
 
 // Format and the calls, by number.
 
-pub fn format(mem: &mut [u32]) -> Answer {
+/// Words are read as of the edition afterwards.
+pub fn format(mem: &mut [u32], edition: u32) -> Answer {
+    choose(edition).ok_or(SIZE)?;
     let sizes = Sizes::of_length(mem.len()).ok_or(SIZE)?;
     mem.fill(0);
-    let header = [sizes.pages, sizes.threes, ROOT_PAGE.address(), sizes.first_flat().address(), ROOT_PAGE.address()];
-    page_mut(mem, HEADER)[..5].copy_from_slice(&header);
+    let header =
+        [sizes.pages, sizes.threes, ROOT_PAGE.address(), sizes.first_flat().address(), ROOT_PAGE.address(), edition];
+    page_mut(mem, HEADER)[..6].copy_from_slice(&header);
     for pair in 0..5 {
         set_word(mem, ROOT_PAGE, 2 * pair + 1, PPage(1 + pair as u32).address());
     }
@@ -243,7 +253,7 @@ pub fn follow_chain(mem: &[u32], caller: &Partition, first: u32, chain: &mut Vec
     for _ in 0..3 {
         let v = VPage::of(link);
         let fresh = chain.iter().all(|earlier| earlier.0 != v);
-        require(good_address(link, PAGE_BYTES) && fresh, CHAIN)?;
+        require(good_address(link, page_bytes()) && fresh, CHAIN)?;
         let mapping = mapping_in_hand(mem, caller, v)?;
         require(holds(mapping, READ + WRITE), RIGHTS)?;
         link = word(mem, mapping.page, 0);
@@ -258,7 +268,7 @@ pub fn collect(mem: &mut [u32], child: u32, target: u32) -> Answer {
     let child = child_at(mem, &caller, at)?;
     let index = target.directory_index();
     require(child.has_three(mem, index), TABLE)?;
-    let empty = (0..PAGE_WORDS).all(|j| child.mapping(mem, VPage::at(index, j)).is_none());
+    let empty = (0..page_words()).all(|j| child.mapping(mem, VPage::at(index, j)).is_none());
     require(empty, FULL_TABLE)?;
     let table = PPage::of(word(mem, child.directory, index));
     let pairs = child.list_pairs(mem);
@@ -313,7 +323,7 @@ fn walk(mem: &[u32], address: u32, right: u32) -> Result<(PPage, usize), u32> {
     let mapping = caller.mapping(mem, VPage::of(address)).ok_or(UNMAPPED)?;
     require(mapping.accessible, KERNEL)?;
     require(holds(mapping, right), RIGHTS)?;
-    Ok((mapping.page, (address % PAGE_BYTES / 4) as usize))
+    Ok((mapping.page, (address % page_bytes() / 4) as usize))
 }
 
 pub fn load(mem: &[u32], address: u32) -> Answer {

@@ -1,6 +1,6 @@
 //! Small guided changes to a sound memory, for comparing judgements of soundness.
 
-use crate::geometry::{PPage, VPage, PAGE_WORDS};
+use crate::geometry::{page_words, PPage, VPage};
 use crate::memory::*;
 use crate::random::Random;
 use crate::tree::{tree, Node};
@@ -41,13 +41,13 @@ pub fn wide_damage(mem: &[u32], random: &mut Random) -> Changes {
 }
 
 fn any_page(mem: &[u32], random: &mut Random) -> u32 {
-    PPage(random.below(mem.len() / PAGE_WORDS) as u32).address()
+    PPage(random.below(mem.len() / page_words()) as u32).address()
 }
 
 /// Names another page as a child's parent.
 fn other_parent(mem: &[u32], nodes: &[Node], random: &mut Random) -> Option<Changes> {
     let children: Vec<_> = nodes[1..].iter().map(|node| node.partition.descriptor).collect();
-    let index = random.pick(&children)?.0 as usize * PAGE_WORDS + PARENT;
+    let index = random.pick(&children)?.0 as usize * page_words() + PARENT;
     Some(vec![(index, any_page(mem, random))])
 }
 
@@ -64,7 +64,7 @@ fn opened(mem: &[u32], nodes: &[Node], mut place: usize, mut v: VPage) -> Change
     loop {
         let Node { partition, parent, .. } = &nodes[place];
         let table = PPage::of(word(mem, partition.directory, v.directory_index()));
-        let index = table.0 as usize * PAGE_WORDS + v.table_index();
+        let index = table.0 as usize * page_words() + v.table_index();
         changes.push((index, mem[index] | ACCESSIBLE));
         v = VPage::of(partition.shadow2(mem, v));
         let Some((above, _)) = *parent else { break changes };
@@ -76,7 +76,7 @@ fn opened(mem: &[u32], nodes: &[Node], mut place: usize, mut v: VPage) -> Change
 fn other_order(mem: &[u32], nodes: &[Node], random: &mut Random) -> Option<Changes> {
     let listed: Vec<_> = nodes[1..].iter().map(|node| node.partition).filter(|p| p.three_count(mem) > 0).collect();
     let child = random.pick(&listed)?;
-    let three = child.list.0 as usize * PAGE_WORDS + 1 + 6 * random.below(child.three_count(mem));
+    let three = child.list.0 as usize * page_words() + 1 + 6 * random.below(child.three_count(mem));
     let (one, other) = random.pick(&[(three, three + 2), (three, three + 4), (three + 2, three + 4)])?;
     Some(vec![(one, mem[other]), (one + 1, mem[other + 1]), (other, mem[one]), (other + 1, mem[one + 1])])
 }
@@ -92,7 +92,7 @@ fn second_use(mem: &[u32], nodes: &[Node], random: &mut Random) -> Option<Change
     let (own, other) = random.pick(&[(1, 2), (2, 3), (3, 1), (1, 1), (2, 2), (3, 3), (4, 4)])?;
     let (dropped, page) = taker.partition.kernel_pairs(mem)[own];
     let (at, taken) = giver.partition.kernel_pairs(mem)[other];
-    let pair = taker.partition.descriptor.0 as usize * PAGE_WORDS + 2 * own;
+    let pair = taker.partition.descriptor.0 as usize * page_words() + 2 * own;
     let mut changes = vec![(pair, at.address()), (pair + 1, taken.address())];
     if page != taken {
         changes.extend(opened(mem, nodes, place, dropped));
@@ -105,7 +105,7 @@ fn place(mem: &[u32], kernel: &[PPage], random: &mut Random) -> usize {
     let mut index = random.below(mem.len());
     for _ in 0..if random.once_in(24) { 0 } else { 6 } {
         let page = random.pick(kernel).unwrap_or(HEADER);
-        index = page.0 as usize * PAGE_WORDS + random.below(PAGE_WORDS);
+        index = page.0 as usize * page_words() + random.below(page_words());
         if mem[index] != 0 {
             break;
         }
@@ -116,7 +116,7 @@ fn place(mem: &[u32], kernel: &[PPage], random: &mut Random) -> usize {
 /// A near or likely value for the word.
 fn changed(mem: &[u32], kernel: &[PPage], index: usize, random: &mut Random) -> u32 {
     let old = mem[index];
-    let address = PPage(random.below(mem.len() / PAGE_WORDS + 1) as u32).address();
+    let address = PPage(random.below(mem.len() / page_words() + 1) as u32).address();
     match random.below(17) {
         0 => old ^ 1 << random.below(32),
         1 | 2 => old ^ 1 << (2 + random.below(3)),

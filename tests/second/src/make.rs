@@ -16,9 +16,15 @@ struct Maker<'a, Show: FnMut(&[u32], Answer, &[u32])> {
 
 /// So many calls for a memory of so many pages; each line is a call number and its arguments.
 pub fn make(seed: u32, count: usize, pages: usize) -> Vec<Vec<u32>> {
-    let (mut mem, mut lines) = (vec![0; pages * PAGE_WORDS], Vec::new());
+    make_for(0, seed, count, pages)
+}
+
+/// The same for pages of an edition.
+pub fn make_for(edition: u32, seed: u32, count: usize, pages: usize) -> Vec<Vec<u32>> {
+    let _ = choose(edition);
+    let (mut mem, mut lines) = (vec![0; pages * page_words()], Vec::new());
     // A bad page count is refused here; the calls are made all the same.
-    let _ = format(&mut mem);
+    let _ = format(&mut mem, edition);
     guide(&mut mem, &mut Random::new(seed), count, |line, _, _| lines.push(line.to_vec()));
     lines
 }
@@ -35,7 +41,7 @@ pub fn guide(mem: &mut [u32], random: &mut Random, count: usize, show: impl FnMu
             13 | 14 => maker.tear(),
             15 => maker.climb(3),
             16 | 17 => maker.descend(3),
-            _ if maker.random.once_in(8) => drop(maker.say(&[0])),
+            _ if maker.random.once_in(8) => drop(maker.say(&[0, edition()])),
             _ => maker.clear_root(),
         }
     }
@@ -92,13 +98,13 @@ impl<Show: FnMut(&[u32], Answer, &[u32])> Maker<'_, Show> {
 
     /// Any address, often a bad one.
     fn stray(&mut self) -> u32 {
-        let page = (1 + self.random.below(4095) as u32) * PAGE_BYTES;
+        let page = (1 + self.random.below(4095) as u32) * page_bytes();
         match self.random.below(9) {
-            0 => VIRTUAL_END + PAGE_BYTES * self.random.below(3) as u32,
+            0 => (virtual_end() + u64::from(page_bytes()) * self.random.below(3) as u64) as u32,
             1 => 4 * self.random.below(64) as u32,
             2 => page + 1 + self.random.below(255) as u32,
             3 => self.random.draw() as u32,
-            4 => VIRTUAL_END - PAGE_BYTES,
+            4 => (virtual_end() - u64::from(page_bytes())) as u32,
             5 => page,
             _ => self.random.pick(&self.mapped(|_, _, _| true)).unwrap_or(page),
         }
@@ -116,9 +122,9 @@ impl<Show: FnMut(&[u32], Answer, &[u32])> Maker<'_, Show> {
     fn bare(&mut self, child: u32) -> u32 {
         let child = self.partition(child);
         let bare = |i: &usize| child.is_none_or(|c| !c.has_three(self.mem, *i));
-        let indices: Vec<usize> = (0..PAGE_WORDS).filter(bare).collect();
+        let indices: Vec<usize> = (0..page_words()).filter(bare).collect();
         let index = self.random.pick(&indices).unwrap_or(0);
-        VPage::at(index, 1 + self.random.below(PAGE_WORDS - 1)).address()
+        VPage::at(index, 1 + self.random.below(page_words() - 1)).address()
     }
 
     /// Mostly an address that the child's tables cover.
@@ -245,7 +251,7 @@ impl<Show: FnMut(&[u32], Answer, &[u32])> Maker<'_, Show> {
             let [a, b, c, d, e, _, _, _, _, ..] = self.hand(READ + WRITE)[..] else { break };
             self.say(&[1, a, b, c, d, e]);
             let Some(index) = self.furnish(a) else { break };
-            let mut slots: Vec<u32> = (0..PAGE_WORDS).map(|j| VPage::at(index, j).address()).collect();
+            let mut slots: Vec<u32> = (0..page_words()).map(|j| VPage::at(index, j).address()).collect();
             slots.retain(|&slot| slot != 0);
             self.random.shuffle(&mut slots);
             let mut pages = self.hand(0);

@@ -16,19 +16,19 @@ pub const PRESENT: u32 = 1;
 pub const ACCESSIBLE: u32 = 2;
 
 pub fn word(mem: &[u32], page: PPage, index: usize) -> u32 {
-    mem.get(page.0 as usize * PAGE_WORDS + index).copied().unwrap_or(0)
+    mem.get(page.0 as usize * page_words() + index).copied().unwrap_or(0)
 }
 
 pub fn set_word(mem: &mut [u32], page: PPage, index: usize, value: u32) {
-    if let Some(word) = mem.get_mut(page.0 as usize * PAGE_WORDS + index) {
+    if let Some(word) = mem.get_mut(page.0 as usize * page_words() + index) {
         *word = value;
     }
 }
 
 /// The page as its own part of the memory.
 pub fn page_mut(mem: &mut [u32], page: PPage) -> &mut [u32] {
-    let start = page.0 as usize * PAGE_WORDS;
-    mem.get_mut(start..start + PAGE_WORDS).unwrap_or(&mut [])
+    let start = page.0 as usize * page_words();
+    mem.get_mut(start..start + page_words()).unwrap_or(&mut [])
 }
 
 /// The five pages of one partition.
@@ -79,8 +79,8 @@ impl Partition {
     /// Every virtual page that has tables, in order.
     pub fn tabled<'a>(&self, mem: &'a [u32]) -> impl Iterator<Item = VPage> + 'a {
         let own = *self;
-        let indices = (0..PAGE_WORDS).filter(move |&i| own.has_three(mem, i));
-        indices.flat_map(|i| (0..PAGE_WORDS).map(move |j| VPage::at(i, j)))
+        let indices = (0..page_words()).filter(move |&i| own.has_three(mem, i));
+        indices.flat_map(|i| (0..page_words()).map(move |j| VPage::at(i, j)))
     }
 
     /// Every present mapping, in order.

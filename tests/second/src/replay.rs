@@ -1,7 +1,7 @@
 //! Replay: a script of call records becomes a transcript, one line for each record.
 
 use crate::calls::{call, format, ARGUMENTS};
-use crate::geometry::{Sizes, PAGE_WORDS};
+use crate::geometry::{page_words, Sizes};
 
 pub const MOST_BYTES: usize = 4096;
 
@@ -51,10 +51,10 @@ fn next(rest: &mut &[u8]) -> Option<u32> {
 }
 
 fn run(script: &Script) -> String {
-    let mut mem = vec![0; script.sizes.pages as usize * PAGE_WORDS];
+    let mut mem = vec![0; script.sizes.pages as usize * page_words()];
     let mut transcript = format!("{} {}\n", script.sizes.pages, script.sizes.free);
     // Never refuses: the page count was checked with the script.
-    let _ = format(&mut mem);
+    let _ = format(&mut mem, 0);
     for (place, record) in script.records.iter().enumerate() {
         match call(&mut mem, record[0], &record[1..]) {
             Some(Ok(answer)) => transcript += &format!("{} ok {answer}\n", place + 1),

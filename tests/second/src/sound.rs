@@ -25,6 +25,7 @@ const SENTENCES: [fn(&Judged) -> bool; 9] = [
 
 /// Ok, or the number of the first broken sentence, from 1.
 pub fn sound(mem: &[u32]) -> Result<(), u32> {
+    read_as(mem);
     let sizes = Sizes::of_length(mem.len()).ok_or(1u32)?;
     let judged = Judged { mem, sizes, tree: tree(mem) };
     SENTENCES.iter().zip(1..).try_for_each(|(holds, number)| holds(&judged).then_some(()).ok_or(number))
@@ -32,6 +33,7 @@ pub fn sound(mem: &[u32]) -> Result<(), u32> {
 
 /// The numbers of all broken sentences.
 pub fn broken(mem: &[u32]) -> Vec<u32> {
+    read_as(mem);
     let Some(sizes) = Sizes::of_length(mem.len()) else { return vec![1] };
     let judged = Judged { mem, sizes, tree: tree(mem) };
     SENTENCES.iter().zip(1..).filter(|(holds, _)| !holds(&judged)).map(|(_, number)| number).collect()
@@ -51,11 +53,11 @@ impl Judged<'_> {
     }
 
     fn is_virtual(&self, address: u32) -> bool {
-        address.is_multiple_of(PAGE_BYTES) && address < VIRTUAL_END
+        address.is_multiple_of(page_bytes()) && u64::from(address) < virtual_end()
     }
 
     fn is_physical(&self, address: u32) -> bool {
-        address.is_multiple_of(PAGE_BYTES) && address / PAGE_BYTES < self.sizes.pages
+        address.is_multiple_of(page_bytes()) && address / page_bytes() < self.sizes.pages
     }
 
     fn zero(&self, page: PPage, words: std::ops::Range<usize>) -> bool {
@@ -76,7 +78,8 @@ fn forms(j: &Judged) -> bool {
         && header(2) == ROOT_PAGE.address()
         && header(3) == j.sizes.first_flat().address()
         && j.is_physical(header(CURRENT))
-        && j.zero(HEADER, CURRENT + 1..PAGE_WORDS)
+        && header(EDITION) == edition()
+        && j.zero(HEADER, EDITION + 1..page_words())
         && j.each(|p| descriptor_form(j, p) && list_form(j, p) && roots_form(j, p) && tables_form(j, p))
 }
 
@@ -89,7 +92,7 @@ fn descriptor_form(j: &Judged, p: &Partition) -> bool {
     pairs_form(j, p.descriptor, 0, 5)
         && word(j.mem, p.descriptor, PARENT - 1) == 0
         && j.is_physical(word(j.mem, p.descriptor, PARENT))
-        && j.zero(p.descriptor, PARENT + 1..PAGE_WORDS)
+        && j.zero(p.descriptor, PARENT + 1..page_words())
 }
 
 fn list_form(j: &Judged, p: &Partition) -> bool {
@@ -97,11 +100,11 @@ fn list_form(j: &Judged, p: &Partition) -> bool {
     used % 6 == 1
         && used <= 1 + 6 * MOST_THREES
         && pairs_form(j, p.list, 1, used / 2)
-        && j.zero(p.list, used..PAGE_WORDS)
+        && j.zero(p.list, used..page_words())
 }
 
 fn roots_form(j: &Judged, p: &Partition) -> bool {
-    (0..PAGE_WORDS).all(|i| {
+    (0..page_words()).all(|i| {
         let entries = p.roots().map(|root| word(j.mem, root, i));
         entries == [0; 3] || entries.iter().all(|&e| e != 0 && j.is_physical(e - 1))
     })
@@ -120,9 +123,9 @@ fn tables_form(j: &Judged, p: &Partition) -> bool {
 // 2. The root's five pages are as format leaves them, and it maps exactly the flat pages.
 fn root_as_formatted(j: &Judged) -> bool {
     let mut fresh = vec![0; j.mem.len()];
-    let _ = format(&mut fresh);
+    let _ = format(&mut fresh, edition());
     let root = Partition::at(j.mem, ROOT_PAGE);
-    let five = PAGE_WORDS..FIRST_THREE as usize * PAGE_WORDS;
+    let five = page_words()..FIRST_THREE as usize * page_words();
     let flat = |mem: &[u32]| -> Vec<_> {
         root.mappings(mem).map(|(v, m)| (v, m.page, m.rights, root.shadow2(mem, v))).collect()
     };
@@ -135,7 +138,7 @@ fn threes_listed_once(j: &Judged) -> bool {
         let pairs = p.list_pairs(j.mem);
         let listed: Vec<_> =
             pairs.chunks(3).map(|three| [0, 1, 2].map(|kind| three[kind].1.address() + PRESENT)).collect();
-        let standing: Vec<_> = (0..PAGE_WORDS)
+        let standing: Vec<_> = (0..page_words())
             .map(|i| p.roots().map(|root| word(j.mem, root, i)))
             .filter(|entries| *entries != [0; 3])
             .collect();

@@ -105,7 +105,7 @@ fn any_memory_is_refused_unchanged() {
         }
         let damaged = sound(&mem).is_err();
         for number in 0..=12 {
-            let count = if number == 0 { 0 } else { ARGUMENTS[number - 1] };
+            let count = if number == 0 { 1 } else { ARGUMENTS[number - 1] };
             let arguments: Vec<u32> = (0..count).map(|_| 256 * random.below(5000) as u32).collect();
             let before = mem.clone();
             let answer = call(&mut mem, number as u32, &arguments).unwrap();

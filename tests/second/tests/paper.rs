@@ -17,7 +17,7 @@ fn sizes() {
     }
     for length in [15 * 64, 257 * 64, 16 * 64 + 1, 16 * 64 - 1, 0] {
         let mut mem = vec![7; length];
-        assert_eq!(format(&mut mem), Err(2));
+        assert_eq!(format(&mut mem, 0), Err(2));
         assert_eq!(leave(&mut mem), Err(1));
         assert!(mem.iter().all(|&word| word == 7));
     }

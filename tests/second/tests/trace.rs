@@ -20,7 +20,7 @@ fn trace(arguments: &[&str], input: &str) -> String {
 fn run() {
     // The hash of no bytes is the offset basis; of a formatted memory it is the same each time.
     assert_eq!(trace(&["run"], "0\n"), "no 2 cbf29ce484222325\n");
-    let lines = trace(&["run"], "20\n1 256 512 768 1024 1280\n5 256 4096\n12 256 1\n0\n");
+    let lines = trace(&["run"], "20\n1 256 512 768 1024 1280\n5 256 4096\n12 256 1\n0 0\n");
     let lines: Vec<_> = lines.lines().map(|line| line.rsplit_once(' ').unwrap()).collect();
     let answers: Vec<_> = lines.iter().map(|line| line.0).collect();
     assert_eq!(answers, ["ok 0", "ok 0", "ok 3", "no 16", "ok 0"]);
@@ -42,7 +42,7 @@ fn make_cover_and_damage() {
 #[test]
 fn runs() {
     // One word: format is refused, a number that no call has is not run; then a cut call in 16 pages, and format there.
-    let input: [u32; 16] = [1, 1, 0, 1, 13, 0, 1024, 2, 10, 8, 2, 0, 10, 0, 0, 0];
+    let input: [u32; 18] = [1, 2, 0, 0, 1, 13, 0, 1024, 2, 10, 8, 3, 0, 0, 10, 0, 0, 0];
     let input: Vec<u8> = input.iter().flat_map(|word| word.to_le_bytes()).collect();
     let output = trace(&["runs"], std::str::from_utf8(&input).unwrap());
     let lines: Vec<_> = output.lines().collect();

@@ -1,6 +1,6 @@
 -- The judgement of the whole, in the code's terms. Assumes nothing.
 use mathlib.Core.Path.{_≡_, refl, sym, ap, _∙_}
-use mathlib.Core.Bool.{true, false, _&&_, false≢true}
+use mathlib.Core.Bool.{Bool, true, false, _&&_, false≢true}
 use mathlib.Core.List.{List, _∷_}
 use mathlib.Core.Option.{Option, none, some}
 use Prim.Native.Nat.{ℕ, zero, suc, _-_, _*_, _≤_, _<_}
@@ -13,8 +13,11 @@ use Rattle.walk.specs.Finite.{from, all}
 use Rattle.walk.specs.Marks.{Seen}
 use Rattle.walk.specs.Walk.{clear}
 use Rattle.memory.specs.Geometry.{pageWords, leastPages, mostPages}
+use Rattle.memory.specs.Edition.{width}
 use Rattle.memory.specs.Partition.{pages}
 use Rattle.soundness.specs.Test.{headerTest, judged, soundTest}
+use Rattle.judging.specs.Quick.{quickTest}
+use Rattle.judging.proofs.Exact.{quick-exact}
 use Rattle.forms.proofs.Laws.Tests.{and-false}
 
 take-zeros : (n k : ℕ) → n ≤ k → take n (replicate {A = ℕ} k 0) ≡ replicate n 0
@@ -22,9 +25,9 @@ take-zeros zero k h = refl
 take-zeros (suc n) zero h = absurd (omega arith)
 take-zeros (suc n) (suc k) h = ap (λ (l : List ℕ). 0 ∷ l) (take-zeros n k (omega arith))
 
--- the first n of the marks, none of them set
-pub clear-part : (n p : ℕ) → n ≡ p → n ≤ 256 → take (n - 0) (replicate {A = ℕ} 256 0) ≡ clear p
-clear-part n p e h = let q : n - 0 ≡ p = omega arith in ap (λ (k : ℕ). take k (replicate {A = ℕ} 256 0)) q ∙ take-zeros p 256 (omega arith)
+-- the first n of k marks, none of them set
+pub clear-part : (k n p : ℕ) → n ≡ p → n ≤ k → take (n - 0) (replicate {A = ℕ} k 0) ≡ clear p
+clear-part k n p e h = let q : n - 0 ≡ p = omega arith in ap (λ (x : ℕ). take x (replicate {A = ℕ} k 0)) q ∙ take-zeros p k (omega arith)
 
 module _ (b : ℕ) (m : List ℕ) where
   -- o is what the walk left
@@ -46,3 +49,7 @@ module _ (b : ℕ) (m : List ℕ) where
   pub unsound-header : headerTest b m ≡ false → false ≡ soundTest b m
   unfolding soundTest
   unsound-header e = rw e refl
+
+-- what the quick test tells at the memory's own width
+pub verdict : (m : List ℕ) {b : ℕ} {r : Bool} → b ≡ width m → 6 ≤ b → r ≡ quickTest b m → r ≡ soundTest (width m) m
+verdict m {b} e h q = q ∙ quick-exact b h m ∙ ap (λ (x : ℕ). soundTest x m) e

@@ -134,7 +134,7 @@ module _ (b : ℕ) where
 
   -- N pages; the header's other words are given
   unfoldable pub headList : List ℕ → Abs → List ℕ
-  headList fixed A = getD fixed 0 0 ∷ getD fixed 1 0 ∷ getD fixed 2 0 ∷ getD fixed 3 0 ∷ addr b (A .cur) ∷ []
+  headList fixed A = getD fixed 0 0 ∷ getD fixed 1 0 ∷ getD fixed 2 0 ∷ getD fixed 3 0 ∷ addr b (A .cur) ∷ getD fixed 4 0 ∷ []
 
 -- what the words of tables are to be
 abbrev pub Cells : Type 0

@@ -7,7 +7,7 @@ use mathlib.Core.Option.{Option}
 use Prim.Native.Nat.{ℕ, _+_, _*_, _≤_, _<_}
 use native.Mathlib.Omega.{arith}
 use lib.ListN.{getD}
-use Rattle.memory.specs.Geometry.{address, threesFor, leastPages, mostPages}
+use Rattle.memory.specs.Geometry.{editionOf, address, threesFor, leastPages, mostPages}
 use Rattle.memory.specs.Partition.{pages, current}
 use Rattle.rules.proofs.model.Words.{W, word, pageOf, pageOf-addr, twelve-lt}
 use Rattle.rules.proofs.model.Abs.{Kind, Role, blank, desc, Abs, WF, Encodes, isHand, cell, roleWord, headList}
@@ -23,7 +23,7 @@ pub record RootKept (N T : ℕ) (A : Abs) : Type 0 where
 module _ (b : ℕ) where
   -- the header's words but for the current partition's
   abbrev pub fixed : ℕ → List ℕ
-  fixed N = N ∷ threesFor b N ∷ address b 1 ∷ address b (6 + 3 * threesFor b N) ∷ []
+  fixed N = N ∷ threesFor b N ∷ address b 1 ∷ address b (6 + 3 * threesFor b N) ∷ editionOf b ∷ []
 
   pub record Inv (m : List ℕ) : Type 0 where
     pub N : ℕ

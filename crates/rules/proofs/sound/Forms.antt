@@ -46,6 +46,7 @@ module _ {b : ℕ} (wide : 6 ≤ b) (m : List ℕ) (i : Inv b m) where
         descriptor = head-at 2 (room wide m i 2 (omega arith));
         first = rw e (head-at 3 (room wide m i 3 (omega arith)));
         current = rw (head-at 4 (room wide m i 4 (omega arith))) (physical wide m i (A .cur) (kernel-fits wide m i (A .cur) (ap isHand (i .wf .cur-live))));
+        edition = head-at 5 (room wide m i 5 (omega arith));
         rest = λ j l k. head-at j l ∙ List·getD-eq-default (headList b (fixed b N) A) 0 k;
       }
 

@@ -6,12 +6,10 @@ use mathlib.Core.List.{List, [], _∷_}
 use Prim.Native.Nat.{ℕ, zero, suc, _≤_}
 use native.Mathlib.Omega.{arith}
 use Rattle.memory.specs.Geometry
-use Rattle.memory.specs.Geometry.{leastPages, mostPages}
-use Rattle.memory.specs.Format.{format}
 use Rattle.memory.specs.Partition
 use Rattle.memory.specs.Tree.{InTree}
 use Rattle.rules.specs.Row.{pass}
-use Rattle.rules.specs.Call.{Call, formatAll, createPartition, deletePartition, addVAddr, removeVAddr, pageCount, prepare, collect, mappedInChild, enter, leave, load, store}
+use Rattle.rules.specs.Call.{Call, formatAll, createPartition, deletePartition, addVAddr, removeVAddr, pageCount, prepare, collect, mappedInChild, enter, leave, load, store, choice}
 use Rattle.rules.specs.Conditions
 use Rattle.rules.specs.Refusals.{refusals, refusal}
 use Rattle.rules.specs.Effects.{delete, effect}
@@ -28,16 +26,15 @@ use Rattle.rules.proofs.Rows.{passed}
 use Rattle.rules.proofs.steps.Checks.{a-child}
 use Rattle.rules.proofs.steps.KeepDelete.{deleted}
 use Rattle.rules.proofs.sound.Tree.{in-tree-live}
-use Rattle.rules.proofs.steps.Formatted.{inv-format}
-use Rattle.rules.proofs.steps.Step.{inv-step, inv-run}
+use Rattle.rules.proofs.steps.Step.{inv-step}
 use Rattle.rules.proofs.steps.ChainChecks.{prepare-checks, collect-checks}
 use Rattle.rules.proofs.steps.ChildPage.{ChildOf, child-of}
 use Rattle.rules.proofs.steps.Prepare as Prepare
 use Rattle.rules.proofs.steps.CollectPlace.{found}
 use Rattle.rules.proofs.steps.CollectThree as Collect
-use Rattle.rules.specs.SameChain.{ThreeAt, Spares, SparesAll, SameChain, SameLater}
+use Rattle.rules.specs.SameChain.{ThreeAt, Spares, SparesAll, SameLater}
 use Rattle.rules.proofs.steps.Relink.{collect-chain}
-use Rattle.rules.proofs.steps.PrepareCollect.{prepare-three, same-chain}
+use Rattle.rules.proofs.steps.PrepareCollect.{prepare-three}
 use Rattle.rules.proofs.steps.ThreeCarry.{carry, stay-enter, stay-leave, stay-store, stay-add, stay-remove}
 use Rattle.rules.proofs.steps.ThreeCreate.{stay-create}
 
@@ -146,8 +143,8 @@ module _ {b : ℕ} (wide : 6 ≤ b) (m : List ℕ) (i : Inv b m) (d x : ℕ) (l 
       go (suc n) e = th
 
   pub three-step : (y : Call) → Spares b m d x y → ThreeAt b (after b m y) d x v₁ v₂ v₃
-  unfolding effect idx pageOf
-  three-step formatAll s = absurd (s .noFormat refl)
+  unfolding effect idx pageOf choice
+  three-step (formatAll e) s = let n = s .noFormat in let z : _≡_ {A = ℕ} 0 1 = cc in absurd (omega arith)
   three-step (createPartition p q r t u) s = passing _ (stay-create wide m i d x l th p q r t u)
   three-step (deletePartition c) s = passing _ (λ e. stay-delete c e (s .afterwards .0) (still c e s))
   three-step (addVAddr p c t r) s = passing _ (stay-add wide m i d x l th p c t r)
@@ -167,7 +164,16 @@ module _ {b : ℕ} (wide : 6 ≤ b) where
   unfolding run
   three-run m i d x th [] s = th
   three-run m i d x th (y ∷ ys) s =
-      three-run (after b m y) (inv-step wide m i y) d x (three-step wide m i d x (in-tree-live wide m i (s .0 .before .0) d (s .0 .before .1)) th y (s .0)) ys (s .1)
+      three-run (after b m y) (inv-step wide m i y (s .0 .noFormat)) d x (three-step wide m i d x (in-tree-live wide m i (s .0 .before .0) d (s .0 .before .1)) th y (s .0)) ys (s .1)
+
+  inv-run : (m : List ℕ) → Inv b m → (d x : ℕ) (ys : List Call) → SparesAll b m d x ys → Inv b (run b m ys)
+  unfolding run
+  inv-run m i d x [] s = i
+  inv-run m i d x (y ∷ ys) s = inv-run (after b m y) (inv-step wide m i y (s .0 .noFormat)) d x ys (s .1)
+
+  prepared : (m : List ℕ) → Inv b m → (c t p : ℕ) → Inv b (after b m (prepare c t p))
+  unfolding choice
+  prepared m i c t p = inv-step wide m i (prepare c t p) refl
 
   pub same-later : (m : List ℕ) → Inv b m → (c t p : ℕ) → refusal b m (prepare c t p) ≡ 0
       → (ys : List Call) → SparesAll b (after b m (prepare c t p)) (Conditions.child b m c) (Geometry.directoryIndex b (Geometry.pageOf b t)) ys
@@ -177,12 +183,8 @@ module _ {b : ℕ} (wide : 6 ≤ b) where
       → SameLater b m c t p ys c′ t′
   same-later m i c t p e ys s c′ t′ e′ k q =
       let m₁ = after b m (prepare c t p) in
-      let i₁ : Inv b m₁ = inv-step wide m i (prepare c t p) in
+      let i₁ : Inv b m₁ = prepared m i c t p in
       let m₂ = run b m₁ ys in
       let th = three-run m₁ i₁ _ _ (prepare-three wide m i c t p e) ys s in
-      let r = collect-chain wide m₂ (inv-run wide m₁ i₁ ys) c′ t′ p (Conditions.link b m p) (Conditions.link b m (Conditions.link b m p)) e′ (rw (k, q) th) in
+      let r = collect-chain wide m₂ (inv-run m₁ i₁ _ _ ys s) c′ t′ p (Conditions.link b m p) (Conditions.link b m (Conditions.link b m p)) e′ (rw (k, q) th) in
       record { answered = r .0; afterwards = r .1 }
-
-  -- from format, and any calls before
-  pub same-chain-run : (n : ℕ) → leastPages ≤ n → n ≤ mostPages b → (ys : List Call) (c t p : ℕ) → refusal b (run b (format b n) ys) (prepare c t p) ≡ 0 → SameChain b (run b (format b n) ys) c t p
-  same-chain-run n l h ys c t p e = same-chain wide _ (inv-run wide (format b n) (inv-format wide n l h) ys) c t p e

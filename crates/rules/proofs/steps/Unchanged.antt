@@ -1,18 +1,16 @@
--- A refused call, a call that leaves every word, and a later format keep the invariant.
-use mathlib.Core.Path.{_≡_, refl, sym, ap, _∙_, subst}
+-- A refused call and a call that leaves every word keep the invariant; format makes it.
+use mathlib.Core.Path.{_≡_, refl, sym, subst}
 use mathlib.Core.List.{List}
-use Prim.Native.Nat.{ℕ, zero, suc, _/_, _≤_}
-use native.Mathlib.Nat.{mul-div-left}
-use lib.Pow.{pow-pos}
-use Rattle.memory.specs.Geometry.{pageWords}
-use Rattle.memory.specs.Format.{format}
+use Prim.Native.Nat.{ℕ, zero, suc, _≤_}
+use Rattle.memory.specs.Geometry.{widthOf}
+use Rattle.memory.proofs.Editions.{wide-of}
 use Rattle.rules.specs.Row.{pass}
 use Rattle.rules.specs.Call.{Call, formatAll, pageCount, mappedInChild, load}
 use Rattle.rules.specs.Conditions.{pagesIn}
 use Rattle.rules.specs.Refusals.{refusal}
 use Rattle.rules.specs.Effects.{effect}
 use Rattle.rules.specs.Calls.{after}
-use Rattle.rules.proofs.model.Words.{Sized}
+use Rattle.rules.specs.Permitted.{Fits}
 use Rattle.rules.proofs.model.Inv.{Inv}
 use Rattle.rules.proofs.steps.Formatted.{inv-format}
 
@@ -41,12 +39,7 @@ module _ {b : ℕ} (wide : 6 ≤ b) (m : List ℕ) (i : Inv b m) where
   unfolding effect
   inv-load a = inv-same (load a) refl
 
-  -- ---- a later format
-
-  pub pages-in : pagesIn b m ≡ i .N
-  unfolding Sized
-  pages-in = ap (λ (x : ℕ). x / pageWords b) (i .words .sized) ∙ mul-div-left (i .N) (pow-pos b)
-
-  pub inv-formatAll : Inv b (after b m formatAll)
-  unfolding effect
-  inv-formatAll = inv-after formatAll (λ z. subst (λ (n : ℕ). Inv b (format b n)) (sym pages-in) (inv-format wide (i .N) (i .least) (i .most)))
+-- format makes memory of its edition, whatever was there
+pub inv-formatAll : (b : ℕ) (m : List ℕ) (e : ℕ) → Fits e m → Inv (widthOf e) (effect b m (formatAll e))
+unfolding effect
+inv-formatAll b m e f = inv-format (wide-of e (f .known)) (pagesIn (widthOf e) m) (f .size .least) (f .size .most)

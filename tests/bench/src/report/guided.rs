@@ -67,7 +67,7 @@ fn slowest(pages: usize) -> Vec<Vec<u32>> {
     let mut met = Vec::new();
     for seed in 0..SEQUENCES {
         let mut words = vec![0; 64 * pages];
-        let _ = second::calls::format(&mut words);
+        let _ = second::calls::format(&mut words, 0);
         let mut calls = 0;
         guide(&mut words, &mut Random::new(900 + seed), CALLS, |_, _, memory| {
             if calls % APART == 0 {

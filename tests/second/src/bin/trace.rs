@@ -3,8 +3,8 @@
 use second::calls::{call, ARGUMENTS};
 use second::cover::Cover;
 use second::damage::{damage, wide_damage};
-use second::geometry::PAGE_WORDS;
-use second::make::make;
+use second::geometry::page_words;
+use second::make::make_for;
 use second::random::Random;
 use second::record;
 use second::refusal::DAMAGED;
@@ -13,7 +13,7 @@ use second::sound::{broken, sound};
 use std::io::{self, BufWriter, Read, Write};
 
 const USAGE: &str =
-    "trace run | trace make SEED COUNT N | trace cover | trace damage SEED COUNT [wide] | trace replay | trace dump \
+    "trace run | trace make SEED COUNT N [EDITION] | trace cover | trace damage SEED COUNT [wide] | trace replay | trace dump \
     | trace judge | trace runs [cover]";
 
 struct File {
@@ -28,7 +28,8 @@ fn main() {
     let done = match words[..] {
         ["run"] => read().and_then(|file| run(&file, &mut out)),
         ["cover"] => read().and_then(|file| cover(&file, &mut out)),
-        ["make", seed, count, pages] => print_made(seed, count, pages, &mut out),
+        ["make", seed, count, pages] => print_made(seed, count, pages, "0", &mut out),
+        ["make", seed, count, pages, edition] => print_made(seed, count, pages, edition, &mut out),
         ["damage", seed, count] => print_damaged(seed, count, false, &mut out),
         ["damage", seed, count, "wide"] => print_damaged(seed, count, true, &mut out),
         ["replay"] => print_replayed(&mut out),
@@ -109,7 +110,7 @@ fn record_lines(mem: &[u32]) -> String {
 /// The first call of a sequence of words and the words behind it; none where its number is unknown or it is cut.
 fn split_call(words: &[u32]) -> Option<(&[u32], &[u32])> {
     let arguments = match *words.first()? as usize {
-        0 => 0,
+        0 => 1,
         number => *ARGUMENTS.get(number - 1)?,
     };
     words.split_at_checked(1 + arguments)
@@ -148,8 +149,8 @@ fn read() -> io::Result<File> {
 
 /// Formats a filled memory and performs the calls, showing each answer with the memory after it.
 fn perform(file: &File, mut show: impl FnMut(u32, Result<u32, u32>, &[u32]) -> io::Result<()>) -> io::Result<Vec<u32>> {
-    let mut mem: Vec<u32> = (0..(file.pages * PAGE_WORDS) as u32).map(|i| i.wrapping_mul(2_654_435_761)).collect();
-    for line in std::iter::once(&vec![0]).chain(&file.calls) {
+    let mut mem: Vec<u32> = (0..(file.pages * page_words()) as u32).map(|i| i.wrapping_mul(2_654_435_761)).collect();
+    for line in std::iter::once(&vec![0, 0]).chain(&file.calls) {
         if let Some(answer) = call(&mut mem, line[0], &line[1..]) {
             show(line[0], answer, &mem)?;
         }
@@ -177,10 +178,10 @@ fn hash(mem: &[u32]) -> u64 {
     bytes.fold(0xcbf2_9ce4_8422_2325, |hash, byte| (hash ^ u64::from(byte)).wrapping_mul(0x100_0000_01b3))
 }
 
-fn print_made(seed: &str, count: &str, pages: &str, out: &mut impl Write) -> io::Result<()> {
+fn print_made(seed: &str, count: &str, pages: &str, edition: &str, out: &mut impl Write) -> io::Result<()> {
     let pages = page_count(pages)?;
     writeln!(out, "{pages}")?;
-    for line in make(number(seed)?, number(count)? as usize, pages) {
+    for line in make_for(number(edition)?, number(seed)?, number(count)? as usize, pages) {
         let numbers: Vec<String> = line.iter().map(u32::to_string).collect();
         writeln!(out, "{}", numbers.join(" "))?;
     }

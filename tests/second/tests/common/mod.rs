@@ -2,12 +2,11 @@
 #![allow(dead_code)]
 
 use second::calls::*;
-use second::geometry::PAGE_WORDS;
 
-/// A freshly formatted memory.
+/// A freshly formatted memory of the old edition.
 pub fn formatted(pages: usize) -> Vec<u32> {
-    let mut mem = vec![0xA5A5_A5A5; pages * PAGE_WORDS];
-    assert_eq!(format(&mut mem), Ok(0));
+    let mut mem = vec![0xA5A5_A5A5; pages * 64];
+    assert_eq!(format(&mut mem, 0), Ok(0));
     mem
 }
 

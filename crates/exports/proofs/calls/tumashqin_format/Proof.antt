@@ -1,6 +1,7 @@
 -- `exports::calls::tumashqin_format` meets its contract. The refusal is the upper half of the packed answer, whose word is 0. Assumes nothing.
 use borrow.Author.Needs.{needs}
-use Rattle.rules.specs.Calls.{answer, result}
+use Rattle.rules.specs.Calls as C
+use Rattle.rules.specs.Editions.{answer}
 use Rattle.exports.proofs.Replies.{refuses}
 use Rattle.exports.proofs.calls.tumashqin_format.Statement.{statement}
 use Rattle.exports.proofs.calls.tumashqin_format.Tie as tie
@@ -18,7 +19,7 @@ same-length : tie.Need-same-length
 same-length c = search needs
 
 returns : tie.Need-returns
-unfolding answer result
+unfolding answer C.answer C.result
 returns c = refuses (c .upper .ensures) (c .before .pack .ensures) (c .before .before .before .before .format .ensures)
 
 pub tumashqin-format-spec : {M : Type 1} → statement M

@@ -1,12 +1,18 @@
--- `formatting::filling::format` meets its contract. The answer and the memory go by the size. Assumes nothing.
+-- `formatting::filling::format` meets its contract. The answer and the memory go by the edition and the size. Assumes nothing.
 use mathlib.Core.Path.{sym, _∙_}
+use native.Mathlib.Omega.{arith}
 use borrow.Author.Needs.{needs}
-use Rattle.rules.proofs.Rows.{on, at, none, answer-no, after-no, answer-ok, after-ok}
-use Rattle.rules.specs.Call.{formatAll}
-use Rattle.rules.specs.Calls.{result}
-use Rattle.rules.specs.Refusals.{refusals}
+use Rattle.formatting.proofs.Choices.{no-edition, no-size, formatted}
 use Rattle.formatting.proofs.filling.format.Statement.{statement}
 use Rattle.formatting.proofs.filling.format.Tie as tie
+
+returns : tie.Need-returns
+returns c =
+    let s = c .before .before .args in
+    no-edition (s .m .now) (s .edition) (omega arith)
+
+width-of-requires : tie.Need-width-of-requires
+width-of-requires c κs = search needs
 
 wrong-size-requires : tie.Need-wrong-size-requires
 wrong-size-requires c κs = search needs
@@ -14,36 +20,32 @@ wrong-size-requires c κs = search needs
 same-length : tie.Need-same-length
 same-length c = search needs
 
-returns : tie.Need-returns
-unfolding refusals
-returns c =
-    let s = c .before .before .before .before .args in
-    let g = sym (c .before .wrong-size .ensures) ∙ c .if1 .taken in
-    (sym (answer-no (s .b) (s .m .now) formatAll 1 (at g)), sym (after-no (s .b) (s .m .now) formatAll 1 (at g)))
+returns-2 : tie.Need-returns-2
+returns-2 c =
+    let s = c .before .before .before .before .before .before .args in
+    no-size (s .m .now) (s .edition) (omega arith) (c .before .before .before .width-of .ensures .0) (sym (c .before .wrong-size .ensures) ∙ c .if2 .taken)
 
 format-effect-requires : tie.Need-format-effect-requires
-format-effect-requires c κs =
-    let h = c .before .before .before .before .before .pre in
-    (h, sym (c .before .before .wrong-size .ensures) ∙ c .before .if1 .left)
+format-effect-requires c κs = (c .before .before .before .before .width-of .ensures .1, sym (c .before .before .wrong-size .ensures) ∙ c .before .if2 .left)
 
 same-length-2 : tie.Need-same-length-2
 same-length-2 c = search needs
 
-returns-2 : tie.Need-returns-2
-unfolding refusals result
-returns-2 c =
+returns-3 : tie.Need-returns-3
+returns-3 c =
+    let s = c .before .before .before .before .before .before .before .before .before .before .args in
     let wrong-size = c .before .before .before .before .before .wrong-size in
-    let s = c .before .before .before .before .before .before .before .before .args in
-    let g = sym (wrong-size .ensures) ∙ c .before .before .before .before .if1 .left in
-    (sym (answer-ok (s .b) (s .m .now) formatAll (on g none)), c .before .before .format-effect .ensures ∙ sym (after-ok (s .b) (s .m .now) formatAll (on g none)))
+    formatted (s .m .now) (s .edition) (omega arith) (c .before .before .before .before .before .before .before .width-of .ensures .0) (sym (wrong-size .ensures) ∙ c .before .before .before .before .if2 .left) (c .before .before .format-effect .ensures)
 
 pub format-spec : {M : Type 1} → statement M
 format-spec =
     tie.close
     (tie.spec
+    returns
+    width-of-requires
     wrong-size-requires
     same-length
-    returns
+    returns-2
     format-effect-requires
     same-length-2
-    returns-2)
+    returns-3)

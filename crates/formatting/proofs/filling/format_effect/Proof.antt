@@ -6,7 +6,6 @@ use lib.ListN.{length-take, length}
 use borrow.Author.Needs.{needs}
 use Rattle.memory.specs.Format.{format}
 use Rattle.memory.specs.Geometry.{pageWords}
-use Rattle.rules.specs.Effects.{effect}
 use Rattle.formatting.proofs.FillLaws.{formatted, formatted-none, formatted-more, formatted-long, formatted-all}
 use Rattle.formatting.proofs.SizeLaws.{size-right, size-bounds, page-inside, page-long}
 use Rattle.formatting.proofs.filling.format_effect.Statement.{statement}
@@ -103,7 +102,6 @@ same-length : tie.Need-same-length Inv-loop μ-loop
 same-length c = search needs
 
 returns : tie.Need-returns Inv-loop μ-loop
-unfolding effect
 returns c =
     let h = c .before .before .before .before .before .before .pre in
     let s = c .before .before .before .before .before .before .args in

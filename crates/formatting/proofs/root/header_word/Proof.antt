@@ -17,6 +17,9 @@ add-t9 c = search needs
 page-address-requires-2 : tie.Need-page-address-requires-2
 page-address-requires-2 c κs = search needs
 
+edition-of-requires : tie.Need-edition-of-requires
+edition-of-requires c κs = search needs
+
 slice-aggregate-read : tie.Need-slice-aggregate-read
 slice-aggregate-read c = search needs
 
@@ -25,11 +28,12 @@ read-requires c κs = search needs
 
 returns : tie.Need-returns
 returns c =
-    let page-address = c .before .before .before .page-address in
-    let page-address2 = c .before .before .page-address2 in
-    let s = c .before .before .before .before .args in
-    c .read .ensures ∙ header-is (s .b) (s .n) (s .t) (c .before .before .before .before .pre .1 .0) (s .i) (page-address .result) (page-address2 .result)
-    (page-address .ensures .0) (page-address2 .ensures .0)
+    let s = c .before .before .before .before .before .args in
+    let page-address = c .before .before .before .before .page-address in
+    let page-address2 = c .before .before .before .page-address2 in
+    let edition-of = c .before .before .edition-of in
+    c .read .ensures ∙ header-is (s .b) (s .n) (s .t) (c .before .before .before .before .before .pre .1 .0) (s .i) (page-address .result) (page-address2 .result) (edition-of .result)
+    (page-address .ensures .0) (page-address2 .ensures .0) (edition-of .ensures .0)
 
 pub header-word-spec : {M : Type 1} → statement M
 header-word-spec =
@@ -39,6 +43,7 @@ header-word-spec =
     mul-t8
     add-t9
     page-address-requires-2
+    edition-of-requires
     slice-aggregate-read
     read-requires
     returns)

@@ -1,6 +1,6 @@
--- `kernel::calls::leave` meets its contract. The width is 6, and the verdict that of the judge. Assumes nothing.
-use native.Mathlib.Omega.{arith}
+-- `kernel::calls::leave` meets its contract. The width is that of the memory, and the verdict that of the judge. Assumes nothing.
 use borrow.Author.Needs.{needs}
+use Rattle.rules.specs.Editions.{answer, after}
 use Rattle.kernel.proofs.calls.leave.Statement.{statement}
 use Rattle.kernel.proofs.calls.leave.Tie as tie
 
@@ -11,13 +11,14 @@ is-sound-requires : tie.Need-is-sound-requires
 is-sound-requires c κs = search needs
 
 leave-requires : tie.Need-leave-requires
-leave-requires c κs = (omega arith, rw (c .before .before .before .width .ensures) (c .before .is-sound .ensures))
+leave-requires c κs = (c .before .before .before .width .ensures .1, rw (c .before .before .before .width .ensures .0) (c .before .is-sound .ensures))
 
 same-length : tie.Need-same-length
 same-length c = search needs
 
 returns : tie.Need-returns
-returns c = rw (c .before .before .before .before .before .before .width .ensures) at (c .before .before .leave .ensures)
+unfolding answer after
+returns c = rw (c .before .before .before .before .before .before .width .ensures .0) at (c .before .before .leave .ensures)
 
 pub leave-spec : {M : Type 1} → statement M
 leave-spec = tie.close (tie.spec width-requires is-sound-requires leave-requires same-length returns)

@@ -2,7 +2,7 @@
 use mathlib.Core.Path.{ap, _∙_}
 use native.Mathlib.Omega.{arith}
 use borrow.Author.Needs.{needs}
-use Rattle.rules.specs.Calls.{answer, after}
+use Rattle.rules.specs.Editions.{answer, after}
 use Rattle.answers.specs.Packed.{packed}
 use Rattle.kernel.proofs.Words.{call-of, whole-parts}
 use Rattle.kernel.proofs.dispatch.call.Statement.{statement}
@@ -34,7 +34,7 @@ returns c =
     let s = c .before .before .before .before .before .before .before .before .before .args in
     let r = c .before .before .before .numbered-call .ensures in
     let e = call-of (s .ws .now) (s .i) (read .ensures) (arguments .ensures) in
-    (c .pack .ensures ∙ ap packed (r .0 ∙ ap (λ x. answer 6 (s .m .now) x) e), r .1 ∙ ap (λ x. after 6 (s .m .now) x) e)
+    (c .pack .ensures ∙ ap packed (r .0 ∙ ap (λ x. answer (s .m .now) x) e), r .1 ∙ ap (λ x. after (s .m .now) x) e)
 
 pub call-spec : {M : Type 1} → statement M
 call-spec =

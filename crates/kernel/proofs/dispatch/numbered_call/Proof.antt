@@ -6,6 +6,9 @@ use Rattle.kernel.specs.Sequence.{numbered}
 use Rattle.kernel.proofs.dispatch.numbered_call.Statement.{statement}
 use Rattle.kernel.proofs.dispatch.numbered_call.Tie as tie
 
+array-read-format : tie.Need-array-read-format
+array-read-format c = search needs
+
 format-requires : tie.Need-format-requires
 format-requires c κs = search needs
 
@@ -215,6 +218,7 @@ pub numbered-call-spec : {M : Type 1} → statement M
 numbered-call-spec =
     tie.close
     (tie.spec
+    array-read-format
     format-requires
     create-partition-requires
     array-read-delete-partition

@@ -14,8 +14,8 @@ word-in-requires c κs = omega (arith, header (c .before .args .bytes .now) (c .
 cast-result : tie.Need-cast-result
 cast-result c = search needs
 
-width-requires : tie.Need-width-requires
-width-requires c κs = search needs
+width-of-requires : tie.Need-width-of-requires
+width-of-requires c κs = search needs
 
 page-words-requires : tie.Need-page-words-requires
 page-words-requires c κs = search needs
@@ -25,17 +25,17 @@ cast-result-2 c = search needs
 
 mul-result : tie.Need-mul-result
 mul-result c =
-    let e : c .page-words .result ≡ 64 = c .page-words .ensures .0 ∙ ap pageWords (c .before .width .ensures) in
+    let e : c .page-words .result ≡ 64 = c .page-words .ensures .0 ∙ ap pageWords (c .before .width-of .ensures .0) in
     omega (arith, ap (λ (x : ℕ). c .before .before .word-in .result * x) e)
 
 returns : tie.Need-returns
 returns c =
     let word-in = c .before .before .word-in in
     let s = c .before .before .before .before in
-    let e : c .page-words .result ≡ 64 = c .page-words .ensures .0 ∙ ap pageWords (c .before .width .ensures) in
+    let e : c .page-words .result ≡ 64 = c .page-words .ensures .0 ∙ ap pageWords (c .before .width-of .ensures .0) in
     let p = ap (λ (x : ℕ). word-in .result * x) e in
     let w = word-in .ensures in
     (omega (arith, p, w), omega (arith, p, w, header (s .args .bytes .now) (s .pre) .most))
 
 pub memory-words-spec : {M : Type 1} → statement M
-memory-words-spec = tie.close (tie.spec word-in-requires cast-result width-requires page-words-requires cast-result-2 mul-result returns)
+memory-words-spec = tie.close (tie.spec word-in-requires cast-result width-of-requires page-words-requires cast-result-2 mul-result returns)

@@ -9,8 +9,8 @@ use Rattle.transcripts.proofs.Turn.{fits}
 use Rattle.transcripts.proofs.replays.replay.Statement.{statement}
 use Rattle.transcripts.proofs.replays.replay.Tie as tie
 
-width-requires : tie.Need-width-requires
-width-requires c κs = search needs
+width-of-requires : tie.Need-width-of-requires
+width-of-requires c κs = search needs
 
 well-formed-requires : tie.Need-well-formed-requires
 well-formed-requires c κs = search needs
@@ -21,7 +21,7 @@ put-bad-script-requires c κs = search needs
 returns : tie.Need-returns
 returns c =
     let s = c .before .before .before .before .before .before .args in
-    let p = bad 6 (s .bytes .now) (s .out .now) (checked (s .bytes .now) (c .before .before .before .before .width .ensures) (c .before .before .before .well-formed .ensures) (not-true _ (c .before .before .if1 .taken))) (c .put-bad-script .ensures) in
+    let p = bad 6 (s .bytes .now) (s .out .now) (checked (s .bytes .now) (c .before .before .before .before .width-of .ensures .0) (c .before .before .before .well-formed .ensures) (not-true _ (c .before .before .if1 .taken))) (c .put-bad-script .ensures) in
     (p, fits (s .bytes .now) p (search needs))
 
 most-words-requires : tie.Need-most-words-requires
@@ -30,7 +30,7 @@ most-words-requires c κs = search needs
 memory-words-requires : tie.Need-memory-words-requires
 memory-words-requires c κs =
     let s = c .before .before .before .before .before .args in
-    checked (s .bytes .now) (c .before .before .before .width .ensures) (c .before .before .well-formed .ensures) (not-false _ (c .before .if1 .left))
+    checked (s .bytes .now) (c .before .before .before .width-of .ensures .0) (c .before .before .well-formed .ensures) (not-false _ (c .before .if1 .left))
 
 array-borrow-prefix-words : tie.Need-array-borrow-prefix-words
 array-borrow-prefix-words c = search needs
@@ -41,9 +41,9 @@ slice-aggregate-run c = simp length-take (omega arith)
 run-requires : tie.Need-run-requires
 run-requires c κs =
     let s = c .before .before .before .before .before .before .before .before .args in
-    let width = c .before .before .before .before .before .before .width in
+    let width-of = c .before .before .before .before .before .before .width-of in
     let well-formed = c .before .before .before .before .before .well-formed in (
-      checked (s .bytes .now) (width .ensures) (well-formed .ensures) (not-false _ (c .before .before .before .before .if1 .left)),
+      checked (s .bytes .now) (width-of .ensures .0) (well-formed .ensures) (not-false _ (c .before .before .before .before .if1 .left)),
       (simp length-take (omega arith), search needs),
     )
 
@@ -57,7 +57,7 @@ pub replay-spec : {M : Type 1} → statement M
 replay-spec =
     tie.close
     (tie.spec
-    width-requires
+    width-of-requires
     well-formed-requires
     put-bad-script-requires
     returns

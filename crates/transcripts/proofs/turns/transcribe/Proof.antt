@@ -16,8 +16,8 @@ Inv-loop bytes m₀ out₀ at₀ n₀ i₀ k₀ m out at n i k = Walking 6 bytes
 abbrev μ-loop : tie.MeasureT-loop
 μ-loop bytes m₀ out₀ at₀ n₀ i₀ k₀ m out at n i k = n
 
-width-requires : tie.Need-width-requires Inv-loop μ-loop
-width-requires c κs = search needs
+width-of-requires : tie.Need-width-of-requires Inv-loop μ-loop
+width-of-requires c κs = search needs
 
 word-in-requires : tie.Need-word-in-requires Inv-loop μ-loop
 word-in-requires c κs = omega (arith, header (c .before .before .before .before .args .bytes .now) (c .before .before .before .before .pre .0) .long)
@@ -36,10 +36,10 @@ cast-i c = search needs
 
 loop-holds : tie.Need-loop-holds Inv-loop μ-loop
 loop-holds c =
-    let width = c .before .before .before .before .before .before .before .width in
+    let width-of = c .before .before .before .before .before .before .before .width-of in
     let word-in = c .before .before .before .before .before .before .word-in in
     let s = c .before .before .before .before .before .before .before .before .before .before .before in (
-      start (s .args .bytes .now) {m = s .args .m .now} (width .ensures) (s .pre .0) (s .pre .1 .0) (word-in .ensures)
+      start (s .args .bytes .now) {m = s .args .m .now} (width-of .ensures .0) (s .pre .0) (s .pre .1 .0) (word-in .ensures)
           (c .before .before .before .before .put-first-line .ensures .0) (c .before .word-in2 .ensures) (c .word-in3 .ensures),
       search needs,
       search needs,
@@ -95,7 +95,7 @@ transcribe-spec =
     (tie.spec
     Inv-loop
     μ-loop
-    width-requires
+    width-of-requires
     word-in-requires
     put-first-line-requires
     word-in-requires-2

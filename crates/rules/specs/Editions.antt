@@ -1,0 +1,34 @@
+-- The calls as they are made: each reads the memory by the width of the edition that the header names. Assumes nothing.
+use mathlib.Core.List.{List, [], _∷_}
+use mathlib.Core.Bool.{cond}
+use mathlib.Core.Option.{Option, none, some}
+use Prim.Native.Nat.{ℕ}
+use Rattle.memory.specs.Edition.{width}
+use Rattle.rules.specs.Row.{Answer}
+use Rattle.rules.specs.Call.{Call, choice}
+use Rattle.rules.specs.Conditions.{unfit}
+use Rattle.rules.specs.Calls as C
+
+unfoldable pub answer : List ℕ → Call → Answer
+answer m c = C.answer (width m) m c
+
+unfoldable pub after : List ℕ → Call → List ℕ
+after m c = C.after (width m) m c
+
+-- the memory after a list of calls, and the answers on the way
+unfoldable pub run : List ℕ → List Call → List ℕ
+run m [] = m
+run m (c ∷ cs) = run (after m c) cs
+
+unfoldable pub answers : List ℕ → List Call → List Answer
+answers m [] = []
+answers m (c ∷ cs) = answer m c ∷ answers (after m c) cs
+
+-- the edition by the last format that passed: e before the calls. Whether a format passes is told by the memory's length and its argument alone.
+unfoldable pub nextEdition : List ℕ → ℕ → Option ℕ → ℕ
+nextEdition m e none = e
+nextEdition m e (some f) = cond (unfit f m) e f
+
+unfoldable pub lastEdition : List ℕ → ℕ → List Call → ℕ
+lastEdition m e [] = e
+lastEdition m e (c ∷ cs) = lastEdition m (nextEdition m e (choice c)) cs
