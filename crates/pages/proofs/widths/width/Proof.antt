@@ -1,7 +1,8 @@
 -- `pages::widths::width` meets its contract. Assumes nothing.
-use mathlib.Core.Path.{sym, _∙_}
+use mathlib.Core.Path.{sym, ap, _∙_}
 use native.Mathlib.Omega.{arith}
 use borrow.Author.Needs.{needs}
+use Rattle.memory.specs.Geometry.{widthOf}
 use Rattle.memory.proofs.Editions.{edition-named, edition-unnamed}
 use Rattle.pages.proofs.widths.width.Statement.{statement}
 use Rattle.pages.proofs.widths.width.Tie as tie
