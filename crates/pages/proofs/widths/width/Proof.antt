@@ -16,7 +16,7 @@ width-of-requires c κs = search needs
 returns : tie.Need-returns
 returns c =
     let s = c .before .before .before .before .args in
-    (c .width-of .ensures .0 ∙ ap widthOf (sym (edition-named (s .m .now) (omega arith))), c .width-of .ensures .1)
+    (c .width-of .ensures .0 ∙ ap widthOf (c .before .before .read .ensures ∙ sym (edition-named (s .m .now) (omega arith))), c .width-of .ensures .1)
 
 width-of-requires-2 : tie.Need-width-of-requires-2
 width-of-requires-2 c κs = search needs
