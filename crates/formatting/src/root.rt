@@ -10,7 +10,7 @@ ghost use Rattle.memory.specs.Format.{headerWord, rootDescriptorWord, rootDirec
 ghost use Rattle.pages.specs.Width.{Width};
 
 // "word 0 N; 1 T; 2 byte offset of the root descriptor (256); 3 byte offset of the first root page, 256(6+3T); 4 physical address of the current
-// partition's descriptor; the rest 0"; document 02, L4: "Page 0 word 5 is 0 for the old edition and 1 for this"
+// partition's descriptor; the rest 0". Document 02, L4: "Page 0 word 5 is 0 for the old edition and 1 for this".
 fn header_word(b: u32, n: u32, t: u32, i: u32) -> u32
     requires { ⌜ Width b ⌝ }
     requires threes { ⌜ (t ≡ threesFor b n) × (t ≤ 6144) ⌝ }

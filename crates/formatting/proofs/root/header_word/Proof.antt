@@ -8,11 +8,11 @@ use Rattle.formatting.proofs.root.header_word.Tie as tie
 page-address-requires : tie.Need-page-address-requires
 page-address-requires c κs = search needs
 
-mul-t8 : tie.Need-mul-t8
-mul-t8 c = search needs
+mul-t9 : tie.Need-mul-t9
+mul-t9 c = search needs
 
-add-t9 : tie.Need-add-t9
-add-t9 c = search needs
+add-t10 : tie.Need-add-t10
+add-t10 c = search needs
 
 page-address-requires-2 : tie.Need-page-address-requires-2
 page-address-requires-2 c κs = search needs
@@ -40,8 +40,8 @@ header-word-spec =
     tie.close
     (tie.spec
     page-address-requires
-    mul-t8
-    add-t9
+    mul-t9
+    add-t10
     page-address-requires-2
     edition-of-requires
     slice-aggregate-read
