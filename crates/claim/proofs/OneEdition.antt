@@ -10,6 +10,7 @@ use Rattle.memory.specs.Edition.{edition, width}
 use Rattle.memory.specs.Sound.{Sound}
 use Rattle.memory.proofs.Widths.{words-least}
 use Rattle.memory.proofs.Editions.{wide-of, edition-known, edition-read}
+use Rattle.soundness.specs.Test.{soundTest}
 use Rattle.soundness.proofs.Whole.{sound?}
 use Rattle.rules.specs.Conditions.{damaged}
 
@@ -17,9 +18,12 @@ use Rattle.rules.specs.Conditions.{damaged}
 pub one-edition : (e : ℕ) (m : List ℕ) → e < length widths → Sound (widthOf e) m → edition m ≡ e
 one-edition e m l s = edition-read m e l (s .header .edition)
 
+-- the test of the memory's own width tells whether it is sound by that width
+pub sound-own? : (m : List ℕ) → Tells (soundTest (width m) m) (Sound (width m) m)
+sound-own? m = sound? (width m) m (omega (arith, words-least (width m) (wide-of (edition m) (edition-known m))))
+
 pub damaged? : (m : List ℕ) → Tells (damaged (width m) m) ((e : ℕ) → e < length widths → ¬ Sound (widthOf e) m)
 damaged? m =
-    let known = edition-known m in
-    via (isn't (sound? (width m) m (omega (arith, words-least (width m) (wide-of (edition m) known)))))
+    via (isn't (sound-own? m))
     (λ n e l s. n (subst (λ (x : ℕ). Sound (widthOf x) m) (sym (one-edition e m l s)) s))
-    (λ n. n (edition m) known)
+    (λ n. n (edition m) (edition-known m))
