@@ -1,0 +1,26 @@
+-- One name that opens every definition that a computed statement runs through. Assumes nothing.
+use Prim.Native.Nat.{ℕ}
+use Rattle.memory.specs.Geometry.{editionOf}
+use Rattle.memory.specs.Words.{tabulate, fill, wipe}
+use Rattle.memory.specs.Format.{formatWord, format}
+use Rattle.memory.specs.Partition.{tableWord, putTableWord}
+use Rattle.rules.specs.Row.{first, reply, pass}
+use Rattle.rules.specs.Call.{choice}
+use Rattle.rules.specs.Moves.{mark, takePage, returnPage, depth}
+use Rattle.rules.specs.Refusals.{refusals}
+use Rattle.rules.specs.Effects.{dropThree, create, add, remove, prepareThree, placeOf, collectThree, effect}
+use Rattle.rules.specs.Calls.{result}
+use Rattle.rules.specs.Replay.{callOf, push, records, script}
+use Rattle.cases.proofs.Reached.{later, afterLater, runLater, answersLater, usual, reachedLater, answersToLater, formattingWords}
+
+unfoldable memory : ℕ
+unfolding editionOf tabulate fill wipe formatWord format tableWord putTableWord
+memory = 0
+
+unfoldable calls : ℕ
+unfolding first reply pass choice mark takePage returnPage depth refusals dropThree create add remove prepareThree placeOf collectThree effect result
+calls = 0
+
+unfoldable pub computing : ℕ
+unfolding memory calls callOf push records script later afterLater runLater answersLater usual reachedLater answersToLater formattingWords
+computing = 0

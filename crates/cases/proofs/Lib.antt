@@ -1,0 +1,4 @@
+pub mod Reached
+pub mod Computing
+pub mod Cases
+pub mod Morning
