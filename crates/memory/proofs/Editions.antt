@@ -25,13 +25,13 @@ narrow-of (suc zero) l = omega arith
 narrow-of (suc (suc e)) l = absurd (omega arith)
 
 module _ (b : ℕ) where
-  pub old-width : b ≡ 6 → 0 ≡ editionOf b
-  unfolding editionOf
-  old-width e = ap (λ (t : Bool). cond t 0 1) (sym (eq-eqb b 6 e))
-
   pub new-width : b ≢ 6 → 1 ≡ editionOf b
   unfolding editionOf
   new-width n = ap (λ (t : Bool). cond t 0 1) (sym (ne-eqb b 6 n))
+
+  pub old-width : b ≡ 6 → 0 ≡ editionOf b
+  unfolding editionOf
+  old-width e = ap (λ (t : Bool). cond t 0 1) (sym (eq-eqb b 6 e))
 
 -- an edition is that of its width
 pub edition-of-width : (e : ℕ) → e < length widths → editionOf (widthOf e) ≡ e
@@ -41,14 +41,6 @@ edition-of-width (suc zero) l = refl
 edition-of-width (suc (suc e)) l = absurd (omega arith)
 
 module _ (m : List ℕ) where
-  pub edition-known : edition m < length widths
-  unfolding edition
-  edition-known = go (ltb (getD m 5 0) (length widths)) refl
-    where
-      go : (t : Bool) → ltb (getD m 5 0) (length widths) ≡ t → cond t (getD m 5 0) 0 < length widths
-      go true e = lt? .0 e
-      go false e = omega arith
-
   -- word 5 names an edition
   pub edition-named : getD m 5 0 < length widths → edition m ≡ getD m 5 0
   unfolding edition
@@ -57,6 +49,14 @@ module _ (m : List ℕ) where
   pub edition-unnamed : length widths ≤ getD m 5 0 → edition m ≡ 0
   unfolding edition
   edition-unnamed l = ap (λ (t : Bool). cond t (getD m 5 0) 0) (le-ltb (getD m 5 0) (length widths) l)
+
+  pub edition-known : edition m < length widths
+  unfolding edition
+  edition-known = go (ltb (getD m 5 0) (length widths)) refl
+    where
+      go : (t : Bool) → ltb (getD m 5 0) (length widths) ≡ t → cond t (getD m 5 0) 0 < length widths
+      go true e = lt? .0 e
+      go false e = omega arith
 
   -- memory whose word 5 is the edition of e's width is read as of e
   pub edition-read : (e : ℕ) → e < length widths → word (widthOf e) m 0 5 ≡ editionOf (widthOf e) → edition m ≡ e
