@@ -14,9 +14,10 @@
  * Stack. No call takes 4 KiB. The most measured is 3,392 bytes, by delete_partition on a tree eight levels deep, so that 704 are left; a level less takes
  * 192 bytes less. This is measured on the archive, for every call at every depth and on damaged memory (tests/bench), and not proved.
  *
- * Memory. A page is 64 words and a memory N pages, 16 to 256; or, as format chooses, a page is 1,024 words and a memory 16 to 4,096 pages.
- * What is said of 64 words, 256 bytes and 2^20 below is then of 1,024, 4,096 and 2^32. Addresses are virtual, of the current partition, as plain
- * numbers. The caller of every call is the current partition; format makes the root current. A call that refuses changes no word and no byte.
+ * Memory. Format chooses the edition: pages of 256 bytes (64 words), 16 to 256 of them, and addresses below 2^20; or pages of 4,096 bytes (1,024 words), 16
+ * to 4,096 of them, and any 32-bit address. The memory's header names it, and every other call goes by that; what is said of 256 bytes below is said of 4,096
+ * in the second. Addresses are virtual, of the current partition, as plain numbers. The caller of every call is the current partition; format makes the root
+ * current. A call that refuses changes no word and no byte.
  */
 #ifndef TUMASHQIN_H
 #define TUMASHQIN_H
@@ -32,8 +33,8 @@ extern "C" {
 enum tumashqin_refusal {
     TUMASHQIN_DONE = 0,        /* no refusal */
     TUMASHQIN_DAMAGED = 1,     /* memory not sound */
-    TUMASHQIN_SIZE = 2,        /* format: the length is not 64 N with N 16 to 256, or the edition is none */
-    TUMASHQIN_ADDRESS = 3,     /* an address of 2^20 or more, on page 0, or not a multiple of 256 (load, store: of 4) */
+    TUMASHQIN_SIZE = 2,        /* format: no such edition, or the length is not N of its pages with N 16 to 256 (16 to 4,096) */
+    TUMASHQIN_ADDRESS = 3,     /* an address on page 0, past the edition's last, or not a multiple of 256 (load, store: of 4) */
     TUMASHQIN_TWICE = 4,       /* two of the five equal */
     TUMASHQIN_CHILD = 5,       /* no child of the caller has its descriptor there */
     TUMASHQIN_RIGHTS = 6,      /* rights above 7, or a right that is not held */
@@ -54,11 +55,14 @@ enum tumashqin_refusal {
 /* Rights of a page, to be added. */
 enum { TUMASHQIN_READ = 1, TUMASHQIN_WRITE = 2, TUMASHQIN_EXECUTE = 4 };
 
-/* Editions: pages of 256 bytes (64 words) and of 4,096 bytes (1,024 words). */
+/* The editions, by the bytes of a page. */
 enum { TUMASHQIN_PAGES_256 = 0, TUMASHQIN_PAGES_4096 = 1 };
 
-/* Words of a page of 256 bytes, bytes of a record, and bytes of its revision, which starts at byte 12 of a record. */
-enum { TUMASHQIN_PAGE_WORDS = 64, TUMASHQIN_RECORD_BYTES = 76, TUMASHQIN_REVISION_BYTES = 64, TUMASHQIN_REVISION_AT = 12 };
+/* Words of a page of each edition. */
+enum { TUMASHQIN_PAGE_WORDS = 64, TUMASHQIN_LARGE_PAGE_WORDS = 1024 };
+
+/* Bytes of a record, and of its revision, which starts at byte 12 of a record. */
+enum { TUMASHQIN_RECORD_BYTES = 76, TUMASHQIN_REVISION_BYTES = 64, TUMASHQIN_REVISION_AT = 12 };
 
 /* A call answers its refusal's number times 2^32, plus its word: the refusal, and 0 where the call is done. */
 static inline uint32_t tumashqin_refusal_of(uint64_t answer) { return (uint32_t)(answer >> 32); }
@@ -67,7 +71,8 @@ static inline uint32_t tumashqin_refusal_of(uint64_t answer) { return (uint32_t)
 static inline uint32_t tumashqin_word_of(uint64_t answer) { return (uint32_t)answer; }
 
 /* Format: wipes all words, writes the header and the root partition, and maps every page left over in the root with all rights. Root is
- * current. It asks nothing of what the words held. The edition is TUMASHQIN_PAGES_256 or TUMASHQIN_PAGES_4096. Answers 0, or SIZE. */
+ * current. It asks nothing of what the words held, and may change a memory's edition where both have the length (16,384 words). The edition is
+ * TUMASHQIN_PAGES_256 or TUMASHQIN_PAGES_4096. Answers 0, or SIZE. */
 uint32_t tumashqin_format(uint32_t *words, size_t length, uint32_t edition);
 
 /* 1. Takes five pages of the caller and makes a child of them, whose name is the descriptor's address.

@@ -21,11 +21,13 @@
 //! ```
 #![deny(missing_docs)]
 
+mod edition;
 mod memory;
 mod raw;
 mod record;
 mod refusal;
 
-pub use memory::{verdict, Edition, Memory, EXECUTE, PAGE_WORDS, READ, WRITE};
+pub use edition::{Edition, PAGE_WORDS};
+pub use memory::{verdict, Memory, EXECUTE, READ, WRITE};
 pub use record::{read_record, record_begin, record_end, revision, Record, RECORD_BYTES, REVISION_BYTES};
 pub use refusal::Refusal;

@@ -1,19 +1,8 @@
 //! The calls, over lent words.
+use crate::edition::Edition;
 use crate::raw;
 use crate::refusal::{answered, done, Refusal};
 use std::fmt;
-
-/// Words of a page of 256 bytes; a memory is 16 to 256 such pages.
-pub const PAGE_WORDS: usize = 64;
-
-/// The geometry that format chooses.
-#[derive(Clone, Copy, PartialEq, Eq, Debug)]
-pub enum Edition {
-    /// Pages of 256 bytes, 16 to 256 of them; addresses of 20 bits.
-    Pages256 = 0,
-    /// Pages of 4,096 bytes, 16 to 4,096 of them; addresses of 32 bits.
-    Pages4096 = 1,
-}
 
 /// The right to read a page.
 pub const READ: u32 = 1;
@@ -41,7 +30,7 @@ pub struct Memory<'a> {
 // Every call below passes the words' own pointer and length, and the library reads and writes only these words: it asks no more.
 impl<'a> Memory<'a> {
     /// Wipes all words, writes the header and the root partition, and maps every page that is left in the root, with all rights.
-    /// Root is current.
+    /// Root is current. It asks nothing of what the words held, and may change a memory's edition where both have the length.
     ///
     /// Refusal: Size.
     pub fn format(words: &'a mut [u32], edition: Edition) -> Result<Memory<'a>, Refusal> {
@@ -54,7 +43,7 @@ impl<'a> Memory<'a> {
         Memory { words }
     }
 
-    /// The words, page k at words 64k to 64k+63, or 1,024k to 1,024k+1,023.
+    /// The words, page after page; the edition tells how many each has.
     pub fn words(&self) -> &[u32] {
         self.words
     }

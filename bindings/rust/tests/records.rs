@@ -1,5 +1,7 @@
 //! The start-up record, written and read back.
-use tumashqin::{read_record, record_begin, record_end, revision, Edition, Memory, Record, Refusal, PAGE_WORDS, RECORD_BYTES};
+use tumashqin::{
+    read_record, record_begin, record_end, revision, Edition, Memory, Record, Refusal, PAGE_WORDS, RECORD_BYTES,
+};
 
 /// 1 to 65: the first 64 count.
 const REVISION: [u8; 65] = {
