@@ -12,3 +12,5 @@ pub mod Marks
 pub mod Tree
 pub mod Judged
 pub mod Lent
+pub mod Bits
+pub mod Outside

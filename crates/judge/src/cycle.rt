@@ -16,15 +16,16 @@ ghost use Rattle.walk.specs.Walk as W;
 ghost use Rattle.memory.specs.Counts.{children};
 ghost use Rattle.soundness.specs.Test.{own};
 ghost use Rattle.judging.specs.Quick.{partitionTest};
+ghost use Rattle.judge.specs.Bits.{marksIn};
 ghost use Rattle.pages.specs.Width.{Width};
 
 // A partition with left levels below it. Each child has kernel pages, so that where none are due there is no child to look for.
-pub fn judge_partition(b: u32, m: &[u32], seen: &mut [u8], d: PhysicalPage, left: u32) -> bool
+pub fn judge_partition(b: u32, m: &[u32], seen: &mut [u32], d: PhysicalPage, left: u32) -> bool
     requires { ⌜ Width b ⌝ }
     ensures { λ r.
         ⌜
-        W.judge (children b (now (m .entry))) (own b (now (m .entry))) (partitionTest b (now (m .entry))) left (now (seen .entry)) (d .0)
-        ≡ answer r (now (seen .exit))
+        W.judge (children b (now (m .entry))) (own b (now (m .entry))) (partitionTest b (now (m .entry))) left (marksIn (now (seen .entry))) (d .0)
+        ≡ answer r (marksIn (now (seen .exit)))
         ⌝ }
 {
     let t = judge_alone(b, m, seen, d);
@@ -38,12 +39,13 @@ pub fn judge_partition(b: u32, m: &[u32], seen: &mut [u8], d: PhysicalPage, left
 }
 
 // The children of d, where left levels may follow.
-pub fn judge_children(b: u32, m: &[u32], seen: &mut [u8], d: PhysicalPage, left: u32) -> bool
+pub fn judge_children(b: u32, m: &[u32], seen: &mut [u32], d: PhysicalPage, left: u32) -> bool
     requires { ⌜ Width b ⌝ }
     ensures { λ r.
         ⌜
-        W.judges (children b (now (m .entry))) (own b (now (m .entry))) (partitionTest b (now (m .entry))) left (now (seen .entry)) (children b (now (m .entry)) (d .0))
-        ≡ answer r (now (seen .exit))
+        W.judges (children b (now (m .entry))) (own b (now (m .entry))) (partitionTest b (now (m .entry))) left (marksIn (now (seen .entry)))
+        (children b (now (m .entry)) (d .0))
+        ≡ answer r (marksIn (now (seen .exit)))
         ⌝ }
 {
     let dir = words_of(b, m, directory(b, m, d));

@@ -1,4 +1,4 @@
-// "Pages 1 to N−1 are each in exactly one hand or one kernel use": one mark a page, set at each use.
+// "Pages 1 to N−1 are each in exactly one hand or one kernel use": one mark a page, set at each use. A mark is a bit, 32 in each word of seen.
 use forms::list_pair;
 use pages::PhysicalPage;
 use pages::accessible;
@@ -17,23 +17,37 @@ ghost use Rattle.memory.specs.Partition;
 ghost use Rattle.memory.specs.Uses.{fivePages};
 ghost use Rattle.soundness.specs.Test.{listedPages};
 ghost use Rattle.judge.specs.Rows.{handWords};
+ghost use Rattle.judge.specs.Bits.{marksIn, markOutside};
 ghost use Rattle.pages.specs.Width.{Width};
 
-// Marks page p, unless it is 0, outside or marked.
-pub fn mark_page(seen: &mut [u8], p: PhysicalPage) -> bool
-    ensures { λ r. ⌜ mark (now (seen .entry)) (p .0) ≡ answer r (now (seen .exit)) ⌝ }
+// Marks what lies past n pages in the last word, which was 0: no page outside can then be marked.
+pub fn mark_outside(seen: &mut [u32], n: u32)
+    ensures { λ r. ⌜ now (seen .exit) ≡ markOutside n (now (seen .entry)) ⌝ }
 {
-    let i = p.0 as usize;
-    if i == 0 {
+    let i = (n / 32) as usize;
+    if i >= seen.len() {
+        return;
+    }
+    seen[i] = 4294967295 - ((1 << (n % 32)) - 1);
+}
+
+// Marks page p, unless it is 0, outside or marked. Where it has its mark the word stays as it is.
+pub fn mark_page(seen: &mut [u32], p: PhysicalPage) -> bool
+    ensures { λ r. ⌜ mark (marksIn (now (seen .entry))) (p .0) ≡ answer r (marksIn (now (seen .exit))) ⌝ }
+{
+    if p.0 == 0 {
         return false;
     }
+    let i = (p.0 / 32) as usize;
     if i >= seen.len() {
         return false;
     }
-    if seen[i] != 0 {
+    let w = seen[i];
+    let x = w | (1 << (p.0 % 32));
+    if x == w {
         return false;
     }
-    seen[i] = 1;
+    seen[i] = x;
     true
 }
 
@@ -53,10 +67,14 @@ pub fn kernel_page(b: u32, m: &[u32], d: PhysicalPage, j: u32) -> PhysicalPage
 }
 
 // Marks the kernel pages of d.
-pub fn mark_kernel(b: u32, m: &[u32], seen: &mut [u8], d: PhysicalPage) -> bool
+pub fn mark_kernel(b: u32, m: &[u32], seen: &mut [u32], d: PhysicalPage) -> bool
     requires { ⌜ Width b ⌝ }
     requires few { ⌜ Partition.threes b (now m) (d .0) ≤ mostThrees ⌝ }
-    ensures { λ r. ⌜ marks (now (seen .entry)) (fivePages b (now (m .entry)) (d .0) ++ listedPages b (now (m .entry)) (d .0)) ≡ answer r (now (seen .exit)) ⌝ }
+    ensures { λ r.
+        ⌜
+        marks (marksIn (now (seen .entry))) (fivePages b (now (m .entry)) (d .0) ++ listedPages b (now (m .entry)) (d .0))
+        ≡ answer r (marksIn (now (seen .exit)))
+        ⌝ }
 {
     let n = 5 + 3 * threes(b, m, d);
     let mut j: u32 = 0;
@@ -70,9 +88,13 @@ pub fn mark_kernel(b: u32, m: &[u32], seen: &mut [u8], d: PhysicalPage) -> bool
 }
 
 // Marks the page of the word w, if it is in hand.
-pub fn mark_hand(b: u32, seen: &mut [u8], w: u32, x: u32) -> bool
+pub fn mark_hand(b: u32, seen: &mut [u32], w: u32, x: u32) -> bool
     requires { ⌜ Width b ⌝ }
-    ensures { λ r. ⌜ cond (handWords w x) (mark (now (seen .entry)) (pageOf b w)) (some (now (seen .entry))) ≡ answer r (now (seen .exit)) ⌝ }
+    ensures { λ r.
+        ⌜
+        cond (handWords w x) (mark (marksIn (now (seen .entry))) (pageOf b w)) (some (marksIn (now (seen .entry))))
+        ≡ answer r (marksIn (now (seen .exit)))
+        ⌝ }
 {
     if w == 0 {
         return true;

@@ -19,6 +19,7 @@ ghost use Rattle.memory.specs.Partition;
 ghost use Rattle.memory.specs.Counts.{tabled};
 ghost use Rattle.soundness.specs.Test.{own};
 ghost use Rattle.judging.specs.Quick.{cell, dueCount, lentCount, partitionTest};
+ghost use Rattle.judge.specs.Bits.{marksIn};
 ghost use Rattle.pages.specs.Width.{Width};
 
 // "conversely each lent page is mapped in that child once": the parent of d lends it n pages.
@@ -71,12 +72,12 @@ pub struct Alone {
 }
 
 // A partition without its children. Its pages are marked before all is asked of it: where the answer is no, the marks are not looked at.
-pub fn judge_alone(b: u32, m: &[u32], seen: &mut [u8], d: PhysicalPage) -> Alone
+pub fn judge_alone(b: u32, m: &[u32], seen: &mut [u32], d: PhysicalPage) -> Alone
     requires { ⌜ Width b ⌝ }
     ensures { λ r.
         ⌜
-        (cond (partitionTest b (now (m .entry)) (d .0)) (marks (now (seen .entry)) (own b (now (m .entry)) (d .0))) none
-        ≡ answer (r .passed) (now (seen .exit)))
+        (cond (partitionTest b (now (m .entry)) (d .0)) (marks (marksIn (now (seen .entry))) (own b (now (m .entry)) (d .0))) none
+        ≡ answer (r .passed) (marksIn (now (seen .exit))))
         × (r .passed ≡ true → r .due ≡ dueCount b (now (m .entry)) (d .0))
         ⌝ }
 {

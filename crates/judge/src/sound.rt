@@ -1,4 +1,5 @@
 // The judgement of a memory, whole.
+use crate::marks::mark_outside;
 use crate::root::root_test;
 use crate::tree::tree_test;
 use crate::tree::under;
@@ -8,53 +9,33 @@ use pages::pages;
 use pages::width;
 ghost use mathlib.Core.Path.{_≡_};
 ghost use mathlib.Core.Bool.{true};
-ghost use Prim.Native.Nat.{_≤_};
-ghost use Rattle.walk.specs.Walk.{clear};
+ghost use lib.ListN.{replicate};
 ghost use Rattle.memory.specs.Edition;
 ghost use Rattle.memory.specs.Partition;
 ghost use Rattle.soundness.specs.Test.{headerTest, soundTest};
 ghost use Rattle.judging.specs.Quick.{quickTest};
+ghost use Rattle.judge.specs.Bits.{wordsFor};
 ghost use Rattle.pages.specs.Width.{Width};
 
-// The rest of the judgement, once the header has passed. seen has a byte for each page, all 0.
-pub fn judged_with(b: u32, m: &[u32], seen: &mut [u8]) -> bool
+// The rest of the judgement, once the header has passed. seen has a bit for each page, all 0.
+pub fn judged_with(b: u32, m: &[u32], seen: &mut [u32]) -> bool
     requires { ⌜ Width b ⌝ }
     requires header { ⌜ headerTest b (now m) ≡ true ⌝ }
-    requires clear { ⌜ now seen ≡ clear (Partition.pages b (now m)) ⌝ }
+    requires clear { ⌜ now seen ≡ replicate (wordsFor (Partition.pages b (now m))) 0 ⌝ }
     ensures { λ r. ⌜ r ≡ quickTest b (now (m .entry)) ⌝ }
 {
     if !root_test(b, m) {
         return false;
     }
+    mark_outside(seen, pages(b, m));
     if !tree_test(b, m, seen) {
         return false;
     }
     under(b, m, current(b, m))
 }
 
-// The same with the marks in a local array, so that no lent buffer changes: a small memory does not pay for the marks of a large one.
-fn judged_small(b: u32, m: &[u32]) -> bool
-    requires { ⌜ Width b ⌝ }
-    requires header { ⌜ headerTest b (now m) ≡ true ⌝ }
-    requires few { ⌜ Partition.pages b (now m) ≤ 256 ⌝ }
-    ensures { λ r. ⌜ r ≡ quickTest b (now (m .entry)) ⌝ }
-{
-    let n = pages(b, m) as usize;
-    let mut seen = [0u8; 256];
-    judged_with(b, m, &mut seen[0..n])
-}
-
-fn judged_large(b: u32, m: &[u32]) -> bool
-    requires { ⌜ Width b ⌝ }
-    requires header { ⌜ headerTest b (now m) ≡ true ⌝ }
-    ensures { λ r. ⌜ r ≡ quickTest b (now (m .entry)) ⌝ }
-{
-    let n = pages(b, m) as usize;
-    let mut seen = [0u8; 4096];
-    judged_with(b, m, &mut seen[0..n])
-}
-
-// Any lent memory, at the width of the edition that its header names.
+// Any lent memory, at the width of the edition that its header names. The marks are in a local array, so that no lent buffer changes: 128 words hold those of
+// the 4,096 pages that a memory has at most.
 pub fn is_sound(m: &[u32]) -> bool
     ensures { λ r. ⌜ r ≡ soundTest (Edition.width (now (m .entry))) (now (m .entry)) ⌝ }
 {
@@ -62,8 +43,7 @@ pub fn is_sound(m: &[u32]) -> bool
     if !header_test(b, m) {
         return false;
     }
-    if pages(b, m) <= 256 {
-        return judged_small(b, m);
-    }
-    judged_large(b, m)
+    let words = ((pages(b, m) + 31) / 32) as usize;
+    let mut seen = [0u32; 128];
+    judged_with(b, m, &mut seen[0..words])
 }

@@ -27,6 +27,7 @@ ghost use Rattle.soundness.specs.Test.{handPages};
 ghost use Rattle.judging.specs.Quick.{shutCount, dueCount, lentCount, mappedCount};
 ghost use Rattle.judge.specs.Run.{run, adding, marking, bit};
 ghost use Rattle.judge.specs.Rows.{shutWords, handWords, dueWords};
+ghost use Rattle.judge.specs.Bits.{marksIn};
 ghost use Rattle.pages.specs.Width.{Width};
 
 // Whether each page in hand could be marked; and where it could, the pages mapped, those neither lent nor accessible, and the kernel pages of the children.
@@ -69,13 +70,14 @@ fn due_pages(b: u32, m: &[u32], w: u32, x: u32) -> u64
 }
 
 // A row, whose page table is pt and whose shadow 1 table is s1.
-pub fn tally_row(b: u32, m: &[u32], seen: &mut [u8], pt: &[u32], s1: &[u32]) -> Swept
+pub fn tally_row(b: u32, m: &[u32], seen: &mut [u32], pt: &[u32], s1: &[u32]) -> Swept
     requires { ⌜ Width b ⌝ }
     requires short { ⌜ length (now pt) ≤ pageWords b ⌝ }
     ensures { λ r.
         ⌜
-        (run (marking (λ j. handWords (getD (now (pt .entry)) j 0) (getD (now (s1 .entry)) j 0)) (λ s j. mark s (pageOf b (getD (now (pt .entry)) j 0)))) (some (now (seen .entry))) (from (pageWords b) 0)
-        ≡ answer (r .marked) (now (seen .exit)))
+        (run (marking (λ j. handWords (getD (now (pt .entry)) j 0) (getD (now (s1 .entry)) j 0)) (λ s j. mark s (pageOf b (getD (now (pt .entry)) j 0))))
+        (some (marksIn (now (seen .entry)))) (from (pageWords b) 0)
+        ≡ answer (r .marked) (marksIn (now (seen .exit))))
         × (r .marked ≡ true
         → (r .mapped ≡ run (adding (λ j. bit (not (eqb (getD (now (pt .entry)) j 0) 0)))) 0 (from (pageWords b) 0))
         × (r .shut ≡ run (adding (λ j. bit (shutWords (getD (now (pt .entry)) j 0) (getD (now (s1 .entry)) j 0)))) 0 (from (pageWords b) 0))
@@ -120,11 +122,11 @@ pub fn tally_row(b: u32, m: &[u32], seen: &mut [u8], pt: &[u32], s1: &[u32]) -> 
 }
 
 // All rows of d.
-pub fn tally(b: u32, m: &[u32], seen: &mut [u8], d: PhysicalPage) -> Swept
+pub fn tally(b: u32, m: &[u32], seen: &mut [u32], d: PhysicalPage) -> Swept
     requires { ⌜ Width b ⌝ }
     ensures { λ r.
         ⌜
-        (marks (now (seen .entry)) (handPages b (now (m .entry)) (d .0)) ≡ answer (r .marked) (now (seen .exit)))
+        (marks (marksIn (now (seen .entry))) (handPages b (now (m .entry)) (d .0)) ≡ answer (r .marked) (marksIn (now (seen .exit))))
         × (r .marked ≡ true
         → (r .mapped ≡ mappedCount b (now (m .entry)) (d .0))
         × (r .shut ≡ shutCount b (now (m .entry)) (d .0))

@@ -9,9 +9,9 @@ use pages::parent;
 use pages::read_word;
 use pages::table_for;
 ghost use mathlib.Core.Path.{_≡_};
-ghost use Prim.Native.Nat.{_-_};
+ghost use Prim.Native.Nat.{_-_, _*_};
 ghost use lib.Dec.{eqb};
-ghost use lib.ListN.{length, getD};
+ghost use lib.ListN.{length, getD, take};
 ghost use Rattle.walk.specs.Finite.{from, all};
 ghost use Rattle.walk.specs.Marks.{answer};
 ghost use Rattle.walk.specs.Walk as W;
@@ -21,15 +21,22 @@ ghost use Rattle.memory.specs.Counts.{children};
 ghost use Rattle.soundness.specs.Test;
 ghost use Rattle.soundness.specs.Test.{own, judged};
 ghost use Rattle.judging.specs.Quick.{partitionTest};
+ghost use Rattle.judge.specs.Bits.{marksIn, OutsideMarked};
 ghost use Rattle.pages.specs.Width.{Width};
 
-// Each page from 1 on has its mark.
-pub fn all_marked(seen: &[u8]) -> bool
-    ensures { λ r. ⌜ r ≡ all (λ p. eqb (getD (now (seen .entry)) p 0) 1) (from (length (now (seen .entry)) - 1) 1) ⌝ }
+// Each page from 1 on has its mark. Page 0 has none, so that its bit is passed over.
+pub fn all_marked(seen: &[u32]) -> bool
+    ensures { λ r. ⌜ r ≡ all (λ p. eqb (getD (marksIn (now (seen .entry))) p 0) 1) (from (32 * length (now (seen .entry)) - 1) 1) ⌝ }
 {
+    if seen.len() == 0 {
+        return true;
+    }
+    if seen[0] | 1 != 4294967295 {
+        return false;
+    }
     let mut i = 1;
     while i < seen.len() {
-        if seen[i] != 1 {
+        if seen[i] != 4294967295 {
             return false;
         }
         i += 1;
@@ -39,12 +46,12 @@ pub fn all_marked(seen: &[u8]) -> bool
 
 // The root, with eight levels below it, as any partition is judged. judge_alone has two callers so that it stays a function when it is compiled: its part of
 // the stack is then taken once, and not at each level of the tree.
-pub fn judge_root(b: u32, m: &[u32], seen: &mut [u8]) -> bool
+pub fn judge_root(b: u32, m: &[u32], seen: &mut [u32]) -> bool
     requires { ⌜ Width b ⌝ }
     ensures { λ r.
         ⌜
-        W.judge (children b (now (m .entry))) (own b (now (m .entry))) (partitionTest b (now (m .entry))) mostDepth (now (seen .entry)) 1
-        ≡ answer r (now (seen .exit))
+        W.judge (children b (now (m .entry))) (own b (now (m .entry))) (partitionTest b (now (m .entry))) mostDepth (marksIn (now (seen .entry))) 1
+        ≡ answer r (marksIn (now (seen .exit)))
         ⌝ }
 {
     let t = judge_alone(b, m, seen, PhysicalPage(1));
@@ -57,14 +64,16 @@ pub fn judge_root(b: u32, m: &[u32], seen: &mut [u8]) -> bool
     judge_children(b, m, seen, PhysicalPage(1), 8)
 }
 
-// The tree below the root, walked once: every partition passes its test, and every page is used once. seen has no mark at first.
-pub fn tree_test(b: u32, m: &[u32], seen: &mut [u8]) -> bool
+// The tree below the root, walked once: every partition passes its test, and every page is used once. No page has its mark at first.
+pub fn tree_test(b: u32, m: &[u32], seen: &mut [u32]) -> bool
     requires { ⌜ Width b ⌝ }
-    requires size { ⌜ length (now seen) ≡ pages b (now m) ⌝ }
+    requires outside { ⌜ OutsideMarked (pages b (now m)) (now seen) ⌝ }
     ensures { λ r.
         ⌜
         r
-        ≡ judged b (now (m .entry)) (W.judge (children b (now (m .entry))) (own b (now (m .entry))) (partitionTest b (now (m .entry))) mostDepth (now (seen .entry)) 1)
+        ≡ judged b (now (m .entry))
+        (W.judge (children b (now (m .entry))) (own b (now (m .entry))) (partitionTest b (now (m .entry))) mostDepth
+        (take (pages b (now (m .entry))) (marksIn (now (seen .entry)))) 1)
         ⌝ }
 {
     if !judge_root(b, m, seen) {

@@ -11,10 +11,10 @@ use lib.ListN.{length, getD, take, replicate}
 use borrow.Author.Tests.{lt-leb}
 use Rattle.walk.specs.Finite.{from, all}
 use Rattle.walk.specs.Marks.{Seen}
-use Rattle.walk.specs.Walk.{clear}
 use Rattle.memory.specs.Geometry.{pageWords, leastPages, mostPages}
 use Rattle.memory.specs.Edition.{width}
 use Rattle.memory.specs.Partition.{pages}
+use Rattle.memory.proofs.Widths.{words-most}
 use Rattle.soundness.specs.Test.{headerTest, judged, soundTest}
 use Rattle.judging.specs.Quick.{quickTest}
 use Rattle.judging.proofs.Exact.{quick-exact}
@@ -25,9 +25,9 @@ take-zeros zero k h = refl
 take-zeros (suc n) zero h = absurd (omega arith)
 take-zeros (suc n) (suc k) h = ap (λ (l : List ℕ). 0 ∷ l) (take-zeros n k (omega arith))
 
--- the first n of k marks, none of them set
-pub clear-part : (k n p : ℕ) → n ≡ p → n ≤ k → take (n - 0) (replicate {A = ℕ} k 0) ≡ clear p
-clear-part k n p e h = let q : n - 0 ≡ p = omega arith in ap (λ (x : ℕ). take x (replicate {A = ℕ} k 0)) q ∙ take-zeros p k (omega arith)
+-- the first n of k words, all of them 0
+pub zeros-part : (k n p : ℕ) → n ≡ p → n ≤ k → take (n - 0) (replicate {A = ℕ} k 0) ≡ replicate p 0
+zeros-part k n p e h = let q : n - 0 ≡ p = omega arith in ap (λ (x : ℕ). take x (replicate {A = ℕ} k 0)) q ∙ take-zeros p k (omega arith)
 
 module _ (b : ℕ) (m : List ℕ) where
   -- o is what the walk left
@@ -35,16 +35,19 @@ module _ (b : ℕ) (m : List ℕ) where
   unfolding judged
   judged-no e = rw e refl
 
-  pub judged-yes : {o : Option Seen} (s : Seen) → o ≡ some s → length s ≡ pages b m → judged b m o ≡ all (λ p. eqb (getD s p 0) 1) (from (length s - 1) 1)
+  pub judged-yes : {o : Option Seen} (s : Seen) → o ≡ some s → judged b m o ≡ all (λ p. eqb (getD s p 0) 1) (from (pages b m - 1) 1)
   unfolding judged
-  judged-yes s e q = rw (e, q) refl
+  judged-yes s e = rw e refl
 
   -- a header that passed has no more pages than are allowed
-  pub header-most : headerTest b m ≡ true → pages b m ≤ mostPages b
+  header-most : headerTest b m ≡ true → pages b m ≤ mostPages b
   header-most e = elim (decLt (mostPages b) (pages b m)) [ yes h ↦ absurd (false≢true (sym (many h) ∙ e)) | no h ↦ omega arith ]
     where
       many : mostPages b < pages b m → headerTest b m ≡ false
       many h = unfold headerTest in (rw (lt-leb (pages b m) (mostPages b) h, and-false (eqb (length m) (pages b m * pageWords b) && leb leastPages (pages b m))) refl)
+
+  pub pages-most : b ≤ 10 → headerTest b m ≡ true → pages b m ≤ 4096
+  pages-most h e = omega (arith, header-most e, words-most b h)
 
   pub unsound-header : headerTest b m ≡ false → false ≡ soundTest b m
   unfolding soundTest

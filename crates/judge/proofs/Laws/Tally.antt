@@ -14,6 +14,7 @@ use Rattle.walk.specs.Marks.{Seen, answer, mark}
 use Rattle.memory.specs.Geometry.{pageWords, pageOf}
 use Rattle.judge.specs.Run.{run, adding, marking, bit}
 use Rattle.judge.specs.Rows.{shutWords, handWords, dueWords}
+use Rattle.judge.specs.Bits.{marksIn}
 use Rattle.judge.proofs.Laws.Run.{run-start, run-next, run-skip}
 use Rattle.judge.proofs.Laws.Rows.{used-end}
 use Rattle.judge.proofs.Laws.Walks.{step-is, walk-stop}
@@ -53,7 +54,7 @@ module _ (b : ℕ) (m pt s1 : List ℕ) where
     none-hand o = ap (λ (w : ℕ). marking (λ j. handWords w (getD s1 j 0)) (λ s j. mark s (pageOf b w)) o x) z
 
   -- the state at place j of the row: the run over what is left gives what the whole gives
-  pub record Tallied (first seen : Seen) (mapped shut due j : ℕ) : Type 0 where
+  pub record Tallied (first seen : List ℕ) (mapped shut due j : ℕ) : Type 0 where
     pub inside : j ≤ length pt
     pub same-length : length seen ≡ length first
     pub mapped-most : mapped ≤ j
@@ -62,9 +63,9 @@ module _ (b : ℕ) (m pt s1 : List ℕ) where
     pub mapped-run : run mappedStep 0 (from (pageWords b) 0) ≡ run mappedStep mapped (from (pageWords b - j) j)
     pub shut-run : run shutStep 0 (from (pageWords b) 0) ≡ run shutStep shut (from (pageWords b - j) j)
     pub due-run : run dueStep 0 (from (pageWords b) 0) ≡ run dueStep due (from (pageWords b - j) j)
-    pub hand-run : run handStep (some first) (from (pageWords b) 0) ≡ run handStep (some seen) (from (pageWords b - j) j)
+    pub hand-run : run handStep (some (marksIn first)) (from (pageWords b) 0) ≡ run handStep (some (marksIn seen)) (from (pageWords b - j) j)
 
-  pub tally-start : (first : Seen) → Tallied first first 0 0 0 0
+  pub tally-start : (first : List ℕ) → Tallied first first 0 0 0 0
   tally-start first =
       record {
         inside = omega arith;
@@ -75,10 +76,10 @@ module _ (b : ℕ) (m pt s1 : List ℕ) where
         mapped-run = run-start mappedStep (pageWords b) 0;
         shut-run = run-start shutStep (pageWords b) 0;
         due-run = run-start dueStep (pageWords b) 0;
-        hand-run = run-start handStep (pageWords b) (some first);
+        hand-run = run-start handStep (pageWords b) (some (marksIn first));
       }
 
-  module _ (short : length pt ≤ pageWords b) {first seen : Seen} {mapped shut due j : ℕ} (t : Tallied first seen mapped shut due j) where
+  module _ (short : length pt ≤ pageWords b) {first seen : List ℕ} {mapped shut due j : ℕ} (t : Tallied first seen mapped shut due j) where
     -- past places whose words are 0
     pub tally-past : (r : ℕ) → j ≤ r → r ≤ length pt → ((x : ℕ) → j ≤ x → x < r → getD pt x 0 ≡ 0) → Tallied first seen mapped shut due r
     tally-past r a l z =
@@ -91,17 +92,19 @@ module _ (b : ℕ) (m pt s1 : List ℕ) where
           mapped-run = t .mapped-run ∙ run-skip mappedStep (pageWords b) j r mapped a (λ x c d. none-mapped x (z x c d) mapped);
           shut-run = t .shut-run ∙ run-skip shutStep (pageWords b) j r shut a (λ x c d. none-shut x (z x c d) shut);
           due-run = t .due-run ∙ run-skip dueStep (pageWords b) j r due a (λ x c d. none-due x (z x c d) due);
-          hand-run = t .hand-run ∙ run-skip handStep (pageWords b) j r (some seen) a (λ x c d. none-hand x (z x c d) (some seen));
+          hand-run = t .hand-run ∙ run-skip handStep (pageWords b) j r (some (marksIn seen)) a (λ x c d. none-hand x (z x c d) (some (marksIn seen)));
         }
 
     next : {S : Type 0} (f : S → ℕ → S) (u : S) {o v : S} → j < length pt → v ≡ f u j → o ≡ run f u (from (pageWords b - j) j) → o ≡ run f v (from (pageWords b - (j + 1)) (j + 1))
     next f u l e w = w ∙ run-next f (pageWords b) j (omega arith) u ∙ ap (λ v. run f v (from (pageWords b - (j + 1)) (j + 1))) (sym e)
 
     -- what the code was told at place j, where the word w is there
-    module _ {w x : ℕ} (r : Bool) (last : Seen) (l : j < length pt) (ew : w ≡ getD pt j 0) (ex : x ≡ getD s1 j 0) (there : w ≢ 0)
-        (marked : cond (handWords w x) (mark seen (pageOf b w)) (some seen) ≡ answer r last) where
-      marked-at : cond (inHand j) (markAt seen j) (some seen) ≡ answer r last
-      marked-at = ap (λ (y : ℕ). cond (handWords y (getD s1 j 0)) (mark seen (pageOf b y)) (some seen)) (sym ew) ∙ ap (λ (y : ℕ). cond (handWords w y) (mark seen (pageOf b w)) (some seen)) (sym ex) ∙ marked
+    module _ {w x : ℕ} (r : Bool) (last : List ℕ) (l : j < length pt) (ew : w ≡ getD pt j 0) (ex : x ≡ getD s1 j 0) (there : w ≢ 0)
+        (marked : cond (handWords w x) (mark (marksIn seen) (pageOf b w)) (some (marksIn seen)) ≡ answer r (marksIn last)) where
+      marked-at : cond (inHand j) (markAt (marksIn seen) j) (some (marksIn seen)) ≡ answer r (marksIn last)
+      marked-at =
+          ap (λ (y : ℕ). cond (handWords y (getD s1 j 0)) (mark (marksIn seen) (pageOf b y)) (some (marksIn seen))) (sym ew)
+          ∙ ap (λ (y : ℕ). cond (handWords w y) (mark (marksIn seen) (pageOf b w)) (some (marksIn seen))) (sym ex) ∙ marked
 
       pub tally-next : {s d : ℕ} → (s ≡ bit (shutWords w x)) × (s ≤ 1) → (d ≡ dueWords b m w x) × (d ≤ 12884901893) → length last ≡ length seen → not r ≡ false
           → Tallied first last (mapped + 1) (shut + s) (due + d) (j + 1)
@@ -118,11 +121,11 @@ module _ (b : ℕ) (m pt s1 : List ℕ) where
             mapped-run = next mappedStep mapped l (ap (λ (q : ℕ). mapped + q) (sym one)) (t .mapped-run);
             shut-run = next shutStep shut l (ap (λ (q : ℕ). shut + q) (es ∙ shuts)) (t .shut-run);
             due-run = next dueStep due l (ap (λ (q : ℕ). due + q) (ed ∙ dues)) (t .due-run);
-            hand-run = next handStep (some seen) l (step-is inHand markAt seen j r last marked-at y) (t .hand-run);
+            hand-run = next handStep (some (marksIn seen)) l (step-is inHand markAt (marksIn seen) j r (marksIn last) marked-at y) (t .hand-run);
           }
 
-      pub tally-stop : not r ≡ true → run handStep (some first) (from (pageWords b) 0) ≡ none
-      tally-stop y = walk-stop inHand markAt seen j (pageWords b) r last (omega arith) marked-at y (t .hand-run)
+      pub tally-stop : not r ≡ true → run handStep (some (marksIn first)) (from (pageWords b) 0) ≡ none
+      tally-stop y = walk-stop inHand markAt (marksIn seen) j (pageWords b) r (marksIn last) (omega arith) marked-at y (t .hand-run)
 
     -- at the end of the row
     module _ (l : length pt ≤ j) where
@@ -135,5 +138,5 @@ module _ (b : ℕ) (m pt s1 : List ℕ) where
       pub tally-due : due ≡ run dueStep 0 (from (pageWords b) 0)
       tally-due = sym (used-end dueStep (pageWords b) pt short (λ x c z u. none-due x z u) due l (t .due-run))
 
-      pub tally-hand : run handStep (some first) (from (pageWords b) 0) ≡ some seen
-      tally-hand = used-end handStep (pageWords b) pt short (λ x c z u. none-hand x z u) (some seen) l (t .hand-run)
+      pub tally-hand : run handStep (some (marksIn first)) (from (pageWords b) 0) ≡ some (marksIn seen)
+      tally-hand = used-end handStep (pageWords b) pt short (λ x c z u. none-hand x z u) (some (marksIn seen)) l (t .hand-run)

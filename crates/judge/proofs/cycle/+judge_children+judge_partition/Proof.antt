@@ -20,6 +20,7 @@ use Rattle.soundness.specs.Test.{own}
 use Rattle.judging.specs.Quick.{partitionTest}
 use Rattle.judge.specs.Run.{run, marking}
 use Rattle.judge.specs.Rows.{used, childWords}
+use Rattle.judge.specs.Bits.{marksIn}
 use Rattle.judge.proofs.Laws.Tree.{alone-no, alone-yes, no-child}
 use Rattle.judge.proofs.Laws.Search.{next-low, next-high, next-here}
 use Rattle.judge.proofs.Laws.Rows.{rowStep, rows-first, rows-next, rows-end}
@@ -120,13 +121,22 @@ judge-partition-claims t = (
 )
 
 abbrev judge-children-Inv-loop2 : judge-children-lts.InvT-loop2
-judge-children-Inv-loop2 b m seen₀ left dir sh1 i pt s1 n j₀ seen j = (length seen ≡ length seen₀) × (j ≤ n) × (j < n → childWords (getD pt j 0) (getD s1 j 0) ≡ true) × (run (marking (λ k. childWords (getD pt k 0) (getD s1 k 0)) (λ t k. W.child (children b m) (own b m) (partitionTest b m) left t (pageOf b (getD pt k 0)))) (some seen₀) (from (pageWords b) 0) ≡ run (marking (λ k. childWords (getD pt k 0) (getD s1 k 0)) (λ t k. W.child (children b m) (own b m) (partitionTest b m) left t (pageOf b (getD pt k 0)))) (some seen) (from (pageWords b - j) j))
+judge-children-Inv-loop2 b m seen₀ left dir sh1 i pt s1 n j₀ seen j =
+    (length seen ≡ length seen₀) × (j ≤ n) × (j < n → childWords (getD pt j 0) (getD s1 j 0) ≡ true)
+    × (run (marking (λ k. childWords (getD pt k 0) (getD s1 k 0))
+    (λ t k. W.child (children b m) (own b m) (partitionTest b m) left t (pageOf b (getD pt k 0)))) (some (marksIn seen₀)) (from (pageWords b) 0)
+    ≡ run (marking (λ k. childWords (getD pt k 0) (getD s1 k 0))
+    (λ t k. W.child (children b m) (own b m) (partitionTest b m) left t (pageOf b (getD pt k 0)))) (some (marksIn seen)) (from (pageWords b - j) j))
 
 abbrev judge-children-μ-loop2 : judge-children-lts.MeasureT-loop2
 judge-children-μ-loop2 b m seen₀ left dir sh1 i pt s1 n j₀ seen j = n - j
 
 abbrev judge-children-Inv-loop : judge-children-lts.InvT-loop
-judge-children-Inv-loop b m seen₀ left dir sh1 i₀ seen i = (length seen ≡ length seen₀) × (i ≤ length dir) × (i < length dir → used dir i ≡ true) × ((d : ℕ) → dir ≡ page b m (directory b m d) → sh1 ≡ page b m (shadow1 b m d) → each (W.child (children b m) (own b m) (partitionTest b m) left) seen₀ (children b m d) ≡ run (rowStep b m (childStep b m d (W.child (children b m) (own b m) (partitionTest b m) left)) d) (some seen) (from (pageWords b - i) i))
+judge-children-Inv-loop b m seen₀ left dir sh1 i₀ seen i =
+    (length seen ≡ length seen₀) × (i ≤ length dir) × (i < length dir → used dir i ≡ true)
+    × ((d : ℕ) → dir ≡ page b m (directory b m d) → sh1 ≡ page b m (shadow1 b m d)
+    → each (W.child (children b m) (own b m) (partitionTest b m) left) (marksIn seen₀) (children b m d)
+    ≡ run (rowStep b m (childStep b m d (W.child (children b m) (own b m) (partitionTest b m) left)) d) (some (marksIn seen)) (from (pageWords b - i) i))
 
 abbrev judge-children-μ-loop : judge-children-lts.MeasureT-loop
 judge-children-μ-loop b m seen₀ left dir sh1 i₀ seen i = length dir - i
@@ -191,8 +201,9 @@ judge-children-loop-holds t c =
       next-here (used dir) (length dir) 0 (omega arith) (c .next-word .ensures),
       λ d e e1. rows-first (s .b) (s .m .now)
           (childStep (s .b) (s .m .now) d (W.child (children (s .b) (s .m .now)) (own (s .b) (s .m .now)) (partitionTest (s .b) (s .m .now)) (s .left))) d dir e
-          (some (s .seen .now))
-          (children-run (s .b) (s .m .now) d (W.child (children (s .b) (s .m .now)) (own (s .b) (s .m .now)) (partitionTest (s .b) (s .m .now)) (s .left)) (s .seen .now))
+          (some (marksIn (s .seen .now)))
+          (children-run (s .b) (s .m .now) d (W.child (children (s .b) (s .m .now)) (own (s .b) (s .m .now)) (partitionTest (s .b) (s .m .now)) (s .left))
+          (marksIn (s .seen .now)))
           (c .next-word .ensures),
     )
 
@@ -281,7 +292,7 @@ judge-children-loop2-holds t c =
       picked-first (λ k. childWords (getD pt k 0) (getD s1 k 0))
           (λ t k. W.child (children (s .b) (s .m .now)) (own (s .b) (s .m .now)) (partitionTest (s .b) (s .m .now)) (s .left) t (pageOf (s .b) (getD pt k 0)))
           (pageWords (s .b)) n (child-short (s .b) (s .m .now) s1 (getD (words-of .result .now) (p .i) 0) (table-of .ensures) (c .before .least .ensures))
-          (child-rest pt s1 (c .before .least .ensures)) (some (p .seen)) (c .next-child .ensures),
+          (child-rest pt s1 (c .before .least .ensures)) (some (marksIn (p .seen))) (c .next-child .ensures),
     )
 
 judge-children-same-length : (t : ℕ) → judge-children-lts.Need-same-length (judge-children-claims t)
@@ -320,8 +331,16 @@ judge-children-returns t c =
     let e1 = words-of2 .ensures ∙ ap (page (s .b) (s .m .now)) (shadow1 .ensures) in
     rows-stop (s .b) (s .m .now) (λ v. childWords (mapping (s .b) (s .m .now) (s .d .0) v) (lent (s .b) (s .m .now) (s .d .0) v))
     (λ t v. (W.child (children (s .b) (s .m .now)) (own (s .b) (s .m .now)) (partitionTest (s .b) (s .m .now)) (s .left)) t (pageOf (s .b) (mapping (s .b) (s .m .now) (s .d .0) v)))
-    (s .d .0) (words-of .result .now) e (p .i) (some (p .seen)) (test .taken)
-    (children-row (s .b) (s .m .now) (s .d .0) (p .i) e (test .taken) (p .inv .2 (test .taken)) (table-of .ensures) e1 (read .ensures) (table-of2 .ensures) (W.child (children (s .b) (s .m .now)) (own (s .b) (s .m .now)) (partitionTest (s .b) (s .m .now)) (s .left)) (some (p .seen)) ∙ q .inv .3 ∙ picked-fails (λ k. childWords (getD pt k 0) (getD s1 k 0)) (λ t k. W.child (children (s .b) (s .m .now)) (own (s .b) (s .m .now)) (partitionTest (s .b) (s .m .now)) (s .left) t (pageOf (s .b) (getD pt k 0))) (pageWords (s .b)) n (child-short (s .b) (s .m .now) s1 (getD (words-of .result .now) (p .i) 0) (table-of .ensures) (least .ensures)) (child-rest pt s1 (least .ensures)) (some (q .seen)) (c .before .loop2-test .taken) (picked-is (λ k. childWords (getD pt k 0) (getD s1 k 0)) (λ t k. W.child (children (s .b) (s .m .now)) (own (s .b) (s .m .now)) (partitionTest (s .b) (s .m .now)) (s .left) t (pageOf (s .b) (getD pt k 0))) (q .seen) (q .j) (q .inv .2 (c .before .loop2-test .taken)) ∙ child-none _ _ _ _ _ _ (c .if1 .taken)))
+    (s .d .0) (words-of .result .now) e (p .i) (some (marksIn (p .seen))) (test .taken)
+    (children-row (s .b) (s .m .now) (s .d .0) (p .i) e (test .taken) (p .inv .2 (test .taken)) (table-of .ensures) e1 (read .ensures) (table-of2 .ensures)
+    (W.child (children (s .b) (s .m .now)) (own (s .b) (s .m .now)) (partitionTest (s .b) (s .m .now)) (s .left)) (some (marksIn (p .seen))) ∙ q .inv .3
+    ∙ picked-fails (λ k. childWords (getD pt k 0) (getD s1 k 0))
+    (λ t k. W.child (children (s .b) (s .m .now)) (own (s .b) (s .m .now)) (partitionTest (s .b) (s .m .now)) (s .left) t (pageOf (s .b) (getD pt k 0)))
+    (pageWords (s .b)) n (child-short (s .b) (s .m .now) s1 (getD (words-of .result .now) (p .i) 0) (table-of .ensures) (least .ensures))
+    (child-rest pt s1 (least .ensures)) (some (marksIn (q .seen))) (c .before .loop2-test .taken)
+    (picked-is (λ k. childWords (getD pt k 0) (getD s1 k 0))
+    (λ t k. W.child (children (s .b) (s .m .now)) (own (s .b) (s .m .now)) (partitionTest (s .b) (s .m .now)) (s .left) t (pageOf (s .b) (getD pt k 0)))
+    (marksIn (q .seen)) (q .j) (q .inv .2 (c .before .loop2-test .taken)) ∙ child-none _ _ _ _ _ _ (c .if1 .taken)))
     (p .inv .3 (s .d .0) e e1)
 
 judge-children-mul-page-of : (t : ℕ) → judge-children-lts.Need-mul-page-of (judge-children-claims t)
@@ -412,8 +431,19 @@ judge-children-returns-2 t c =
     let e1 = words-of2 .ensures ∙ ap (page (s .b) (s .m .now)) (shadow1 .ensures) in
     rows-stop (s .b) (s .m .now) (λ v. childWords (mapping (s .b) (s .m .now) (s .d .0) v) (lent (s .b) (s .m .now) (s .d .0) v))
     (λ t v. (W.child (children (s .b) (s .m .now)) (own (s .b) (s .m .now)) (partitionTest (s .b) (s .m .now)) (s .left)) t (pageOf (s .b) (mapping (s .b) (s .m .now) (s .d .0) v)))
-    (s .d .0) (words-of .result .now) e (p .i) (some (p .seen)) (test .taken)
-    (children-row (s .b) (s .m .now) (s .d .0) (p .i) e (test .taken) (p .inv .2 (test .taken)) (table-of .ensures) e1 (read .ensures) (table-of2 .ensures) (W.child (children (s .b) (s .m .now)) (own (s .b) (s .m .now)) (partitionTest (s .b) (s .m .now)) (s .left)) (some (p .seen)) ∙ q .inv .3 ∙ picked-fails (λ k. childWords (getD pt k 0) (getD s1 k 0)) (λ t k. W.child (children (s .b) (s .m .now)) (own (s .b) (s .m .now)) (partitionTest (s .b) (s .m .now)) (s .left) t (pageOf (s .b) (getD pt k 0))) (pageWords (s .b)) n (child-short (s .b) (s .m .now) s1 (getD (words-of .result .now) (p .i) 0) (table-of .ensures) (least .ensures)) (child-rest pt s1 (least .ensures)) (some (q .seen)) (loop2-test .taken) (picked-is (λ k. childWords (getD pt k 0) (getD s1 k 0)) (λ t k. W.child (children (s .b) (s .m .now)) (own (s .b) (s .m .now)) (partitionTest (s .b) (s .m .now)) (s .left) t (pageOf (s .b) (getD pt k 0))) (q .seen) (q .j) (q .inv .2 (loop2-test .taken)) ∙ ap (λ (x : ℕ). (W.child (children (s .b) (s .m .now)) (own (s .b) (s .m .now)) (partitionTest (s .b) (s .m .now)) (s .left)) (q .seen) x) (sym (c .before .before .before .before .page-of .ensures)) ∙ child-next _ _ _ _ _ _ (pos-of-ne-zero (first .left)) ∙ failed _ (judge-partition .result) (judge-partition .last .1 .1 .0) (judge-partition .ensures) (not-true _ (c .if2 .taken))))
+    (s .d .0) (words-of .result .now) e (p .i) (some (marksIn (p .seen))) (test .taken)
+    (children-row (s .b) (s .m .now) (s .d .0) (p .i) e (test .taken) (p .inv .2 (test .taken)) (table-of .ensures) e1 (read .ensures) (table-of2 .ensures)
+    (W.child (children (s .b) (s .m .now)) (own (s .b) (s .m .now)) (partitionTest (s .b) (s .m .now)) (s .left)) (some (marksIn (p .seen))) ∙ q .inv .3
+    ∙ picked-fails (λ k. childWords (getD pt k 0) (getD s1 k 0))
+    (λ t k. W.child (children (s .b) (s .m .now)) (own (s .b) (s .m .now)) (partitionTest (s .b) (s .m .now)) (s .left) t (pageOf (s .b) (getD pt k 0)))
+    (pageWords (s .b)) n (child-short (s .b) (s .m .now) s1 (getD (words-of .result .now) (p .i) 0) (table-of .ensures) (least .ensures))
+    (child-rest pt s1 (least .ensures)) (some (marksIn (q .seen))) (loop2-test .taken)
+    (picked-is (λ k. childWords (getD pt k 0) (getD s1 k 0))
+    (λ t k. W.child (children (s .b) (s .m .now)) (own (s .b) (s .m .now)) (partitionTest (s .b) (s .m .now)) (s .left) t (pageOf (s .b) (getD pt k 0)))
+    (marksIn (q .seen)) (q .j) (q .inv .2 (loop2-test .taken))
+    ∙ ap (λ (x : ℕ). (W.child (children (s .b) (s .m .now)) (own (s .b) (s .m .now)) (partitionTest (s .b) (s .m .now)) (s .left)) (marksIn (q .seen)) x)
+    (sym (c .before .before .before .before .page-of .ensures)) ∙ child-next _ _ _ _ _ _ (pos-of-ne-zero (first .left))
+    ∙ failed _ (judge-partition .result) (marksIn (judge-partition .last .1 .1 .0)) (judge-partition .ensures) (not-true _ (c .if2 .taken))))
     (p .inv .3 (s .d .0) e e1)
 
 judge-children-add-next-child : (t : ℕ) → judge-children-lts.Need-add-next-child (judge-children-claims t)
@@ -481,8 +511,13 @@ judge-children-loop2-again t c =
       q .inv .3 ∙ picked-next (λ k. childWords (getD pt k 0) (getD s1 k 0))
           (λ t k. W.child (children (s .b) (s .m .now)) (own (s .b) (s .m .now)) (partitionTest (s .b) (s .m .now)) (s .left) t (pageOf (s .b) (getD pt k 0)))
           (pageWords (s .b)) n (child-short (s .b) (s .m .now) s1 (getD (words-of .result .now) (p .i) 0) (table-of .ensures) (least .ensures))
-          (child-rest pt s1 (least .ensures)) (some (q .seen)) (some (judge-partition .last .1 .1 .0)) (loop2-test .taken)
-          (sym (picked-is (λ k. childWords (getD pt k 0) (getD s1 k 0)) (λ t k. W.child (children (s .b) (s .m .now)) (own (s .b) (s .m .now)) (partitionTest (s .b) (s .m .now)) (s .left) t (pageOf (s .b) (getD pt k 0))) (q .seen) (q .j) (q .inv .2 (loop2-test .taken)) ∙ ap (λ (x : ℕ). (W.child (children (s .b) (s .m .now)) (own (s .b) (s .m .now)) (partitionTest (s .b) (s .m .now)) (s .left)) (q .seen) x) (sym (page-of .ensures)) ∙ child-next _ _ _ _ _ _ (pos-of-ne-zero (first .left)) ∙ passed _ (judge-partition .result) _ (judge-partition .ensures) (not-false _ (c .before .if2 .left))))
+          (child-rest pt s1 (least .ensures)) (some (marksIn (q .seen))) (some (marksIn (judge-partition .last .1 .1 .0))) (loop2-test .taken)
+          (sym (picked-is (λ k. childWords (getD pt k 0) (getD s1 k 0))
+          (λ t k. W.child (children (s .b) (s .m .now)) (own (s .b) (s .m .now)) (partitionTest (s .b) (s .m .now)) (s .left) t
+          (pageOf (s .b) (getD pt k 0))) (marksIn (q .seen)) (q .j) (q .inv .2 (loop2-test .taken))
+          ∙ ap (λ (x : ℕ). (W.child (children (s .b) (s .m .now)) (own (s .b) (s .m .now)) (partitionTest (s .b) (s .m .now)) (s .left))
+          (marksIn (q .seen)) x) (sym (page-of .ensures)) ∙ child-next _ _ _ _ _ _ (pos-of-ne-zero (first .left))
+          ∙ passed _ (judge-partition .result) _ (judge-partition .ensures) (not-false _ (c .before .if2 .left))))
           (c .next-child2 .ensures),
     )
 
@@ -543,8 +578,14 @@ judge-children-loop-again t c =
       next-here (used dir) (length dir) (p .i + 1) (omega (arith, test .taken)) (c .next-word2 .ensures),
       λ d e e1. rows-next (s .b) (s .m .now)
           (childStep (s .b) (s .m .now) d (W.child (children (s .b) (s .m .now)) (own (s .b) (s .m .now)) (partitionTest (s .b) (s .m .now)) (s .left))) d dir e
-          (some (p .seen)) (some (q .seen)) (test .taken)
-          (sym (children-row (s .b) (s .m .now) d (p .i) e (test .taken) (p .inv .2 (test .taken)) (table-of .ensures) e1 (read .ensures) (table-of2 .ensures) (W.child (children (s .b) (s .m .now)) (own (s .b) (s .m .now)) (partitionTest (s .b) (s .m .now)) (s .left)) (some (p .seen)) ∙ q .inv .3 ∙ picked-end (λ k. childWords (getD pt k 0) (getD s1 k 0)) (λ t k. W.child (children (s .b) (s .m .now)) (own (s .b) (s .m .now)) (partitionTest (s .b) (s .m .now)) (s .left) t (pageOf (s .b) (getD pt k 0))) (pageWords (s .b)) n (child-short (s .b) (s .m .now) s1 (getD (words-of .result .now) (p .i) 0) (table-of .ensures) (least .ensures)) (child-rest pt s1 (least .ensures)) (some (q .seen)) (c .before .loop2-test .left)))
+          (some (marksIn (p .seen))) (some (marksIn (q .seen))) (test .taken)
+          (sym (children-row (s .b) (s .m .now) d (p .i) e (test .taken) (p .inv .2 (test .taken)) (table-of .ensures) e1 (read .ensures)
+          (table-of2 .ensures) (W.child (children (s .b) (s .m .now)) (own (s .b) (s .m .now)) (partitionTest (s .b) (s .m .now)) (s .left))
+          (some (marksIn (p .seen))) ∙ q .inv .3 ∙ picked-end (λ k. childWords (getD pt k 0) (getD s1 k 0))
+          (λ t k. W.child (children (s .b) (s .m .now)) (own (s .b) (s .m .now)) (partitionTest (s .b) (s .m .now)) (s .left) t
+          (pageOf (s .b) (getD pt k 0))) (pageWords (s .b)) n
+          (child-short (s .b) (s .m .now) s1 (getD (words-of .result .now) (p .i) 0) (table-of .ensures) (least .ensures))
+          (child-rest pt s1 (least .ensures)) (some (marksIn (q .seen))) (c .before .loop2-test .left)))
           (c .next-word2 .ensures) (p .inv .3 d e e1),
     )
 
@@ -572,7 +613,7 @@ judge-children-returns-3 t c =
     let e1 = c .before .before .before .words-of2 .ensures ∙ ap (page (s .b) (s .m .now)) (c .before .before .before .before .shadow1 .ensures) in
     rows-end (s .b) (s .m .now)
     (childStep (s .b) (s .m .now) (s .d .0) (W.child (children (s .b) (s .m .now)) (own (s .b) (s .m .now)) (partitionTest (s .b) (s .m .now)) (s .left))) (s .d .0)
-    (words-of .result .now) e (some (c .before .loop .seen)) (c .loop-test .left) (c .before .loop .inv .3 (s .d .0) e e1)
+    (words-of .result .now) e (some (marksIn (c .before .loop .seen))) (c .loop-test .left) (c .before .loop .inv .3 (s .d .0) e e1)
 
 judge-partition-judge-alone-requires : (t : ℕ) → judge-partition-lts.Need-judge-alone-requires (judge-partition-claims t)
     (judge-partition-at t) judge-partition.Post
@@ -584,7 +625,7 @@ judge-partition-same-length t c = search needs
 judge-partition-returns : (t : ℕ) → judge-partition-lts.Need-returns (judge-partition-claims t) (judge-partition-at t) judge-partition.Post
 judge-partition-returns t c =
     let judge-alone = c .before .before .before .before .judge-alone in
-    alone-no _ _ _ _ _ _ (failed _ (judge-alone .result .passed) (judge-alone .last .1 .1 .0) (judge-alone .ensures .0) (not-true _ (c .if1 .taken)))
+    alone-no _ _ _ _ _ _ (failed _ (judge-alone .result .passed) (marksIn (judge-alone .last .1 .1 .0)) (judge-alone .ensures .0) (not-true _ (c .if1 .taken)))
 
 judge-partition-same-length-2 : (t : ℕ) → judge-partition-lts.Need-same-length-2 (judge-partition-claims t) (judge-partition-at t) judge-partition.Post
 judge-partition-same-length-2 t c = search needs
@@ -594,9 +635,9 @@ judge-partition-returns-2 t c =
     let judge-alone = c .before .before .before .before .before .before .judge-alone in
     let s = c .before .before .before .before .before .before .before .before .before .before .args in
     let first = c .before .before .if1 in
-    let marked = passed _ (judge-alone .result .passed) (judge-alone .last .1 .1 .0) (judge-alone .ensures .0) (not-false _ (first .left)) in
-    alone-yes _ _ _ _ _ _ (judge-alone .last .1 .1 .0) marked
-    ∙ no-child (s .b) (s .m .now) _ (judge-alone .last .1 .1 .0) (s .d .0) (judge-alone .ensures .1 (not-false _ (first .left))) (c .if2 .taken)
+    let marked = passed _ (judge-alone .result .passed) (marksIn (judge-alone .last .1 .1 .0)) (judge-alone .ensures .0) (not-false _ (first .left)) in
+    alone-yes _ _ _ _ _ _ (marksIn (judge-alone .last .1 .1 .0)) marked
+    ∙ no-child (s .b) (s .m .now) _ (marksIn (judge-alone .last .1 .1 .0)) (s .d .0) (judge-alone .ensures .1 (not-false _ (first .left))) (c .if2 .taken)
 
 judge-partition-judge-children-requires : (t : ℕ) → judge-partition-lts.Need-judge-children-requires (judge-partition-claims t)
     (judge-partition-at t) judge-partition.Post
@@ -609,8 +650,8 @@ judge-partition-returns-3 : (t : ℕ) → judge-partition-lts.Need-returns-3 (ju
 judge-partition-returns-3 t c =
     let judge-alone = c .before .before .before .before .before .before .before .before .before .before .judge-alone in
     let first = c .before .before .before .before .before .before .if1 in
-    let marked = passed _ (judge-alone .result .passed) (judge-alone .last .1 .1 .0) (judge-alone .ensures .0) (not-false _ (first .left)) in
-    alone-yes _ _ _ _ _ _ (judge-alone .last .1 .1 .0) marked ∙ c .before .before .judge-children .ensures
+    let marked = passed _ (judge-alone .result .passed) (marksIn (judge-alone .last .1 .1 .0)) (judge-alone .ensures .0) (not-false _ (first .left)) in
+    alone-yes _ _ _ _ _ _ (marksIn (judge-alone .last .1 .1 .0)) marked ∙ c .before .before .judge-children .ensures
 
 pub +judge-children+judge-partition-spec : {M : Type 1} → statement M
 +judge-children+judge-partition-spec =

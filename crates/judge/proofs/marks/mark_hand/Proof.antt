@@ -4,6 +4,7 @@ use Rattle.walk.specs.Marks.{mark}
 use borrow.Author.Tests.{eq-eqb, ne-eqb}
 use mathlib.Core.Path.{refl, sym, ap, _∙_}
 use borrow.Author.Needs.{needs}
+use Rattle.judge.specs.Bits.{marksIn}
 use Rattle.judge.proofs.marks.mark_hand.Statement.{statement}
 use Rattle.judge.proofs.marks.mark_hand.Tie as tie
 
@@ -38,7 +39,7 @@ returns-4 c =
     let second = c .before .before .before .before .before .before .if2 in
     let third = c .before .before .before .before .before .if3 in
     rw (ne-eqb (s .w) 0 (first .left), equal (accessible .ensures) refl (second .left), eq-eqb (s .x) 0 (third .left))
-    (ap (mark (s .seen .now)) (sym (c .before .before .before .page-of .ensures)) ∙ c .before .before .mark-page .ensures)
+    (ap (mark (marksIn (s .seen .now))) (sym (c .before .before .before .page-of .ensures)) ∙ c .before .before .mark-page .ensures)
 
 pub mark-hand-spec : {M : Type 1} → statement M
 mark-hand-spec =

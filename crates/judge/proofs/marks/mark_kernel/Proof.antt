@@ -8,13 +8,17 @@ use Rattle.memory.specs.Uses.{fivePages}
 use Rattle.walk.specs.Marks.{marks}
 use Rattle.soundness.proofs.Used.{front}
 use Rattle.soundness.specs.Test.{listedPages}
+use Rattle.judge.specs.Bits.{marksIn}
 use Rattle.judge.proofs.Laws.Marks.{mark-went, mark-failed, mark-end}
 use borrow.Author.Needs.{needs}
 use Rattle.judge.proofs.marks.mark_kernel.Statement.{statement}
 use Rattle.judge.proofs.marks.mark_kernel.Tie as tie
 
 abbrev Inv-loop : tie.InvT-loop
-Inv-loop b m seen₀ d n j₀ seen j = (length seen ≡ length seen₀) × (marks seen₀ (fivePages b m (d .0) ++ listedPages b m (d .0)) ≡ marks seen (drop j (fivePages b m (d .0) ++ listedPages b m (d .0))))
+Inv-loop b m seen₀ d n j₀ seen j =
+    (length seen ≡ length seen₀)
+    × (marks (marksIn seen₀) (fivePages b m (d .0) ++ listedPages b m (d .0))
+    ≡ marks (marksIn seen) (drop j (fivePages b m (d .0) ++ listedPages b m (d .0))))
 
 abbrev μ-loop : tie.MeasureT-loop
 μ-loop b m seen₀ d n j₀ seen j = n - j
@@ -46,7 +50,8 @@ returns c =
     let threes = c .before .before .before .before .before .before .before .before .threes in
     let p = c .before .before .before .before .before .before .before .loop in
     let mark-page = c .before .before .before .mark-page in
-    mark-failed (fivePages (s .b) (s .m .now) (s .d .0) ++ listedPages (s .b) (s .m .now) (s .d .0)) (p .j) (p .seen) (mark-page .result) (mark-page .last .0)
+    mark-failed (fivePages (s .b) (s .m .now) (s .d .0) ++ listedPages (s .b) (s .m .now) (s .d .0)) (p .j) (marksIn (p .seen)) (mark-page .result)
+    (marksIn (mark-page .last .0))
     (omega (arith, threes .ensures, front (s .b) (s .m .now) (s .d .0))) (c .before .before .before .before .kernel-page .ensures) (mark-page .ensures) (c .if1 .taken)
     (p .inv .1)
 
@@ -63,7 +68,8 @@ loop-again c =
     let p = c .before .before .before .before .before .before .before .loop in
     let mark-page = c .before .before .before .mark-page in (
       mark-page .kept .0 ∙ p .inv .0,
-      mark-went (fivePages (s .b) (s .m .now) (s .d .0) ++ listedPages (s .b) (s .m .now) (s .d .0)) (p .j) (p .seen) (mark-page .result) (mark-page .last .0)
+      mark-went (fivePages (s .b) (s .m .now) (s .d .0) ++ listedPages (s .b) (s .m .now) (s .d .0)) (p .j) (marksIn (p .seen)) (mark-page .result)
+          (marksIn (mark-page .last .0))
           (omega (arith, threes .ensures, front (s .b) (s .m .now) (s .d .0))) (c .before .before .before .before .kernel-page .ensures) (mark-page .ensures) (c .if1 .left)
           (p .inv .1),
     )
@@ -74,7 +80,7 @@ same-length-2 c = search needs
 returns-2 : tie.Need-returns-2 Inv-loop μ-loop
 returns-2 c =
     let s = c .before .before .before .before .before .args in
-    mark-end (fivePages (s .b) (s .m .now) (s .d .0) ++ listedPages (s .b) (s .m .now) (s .d .0)) (c .before .loop .j) (c .before .loop .seen)
+    mark-end (fivePages (s .b) (s .m .now) (s .d .0) ++ listedPages (s .b) (s .m .now) (s .d .0)) (c .before .loop .j) (marksIn (c .before .loop .seen))
     (omega (arith, c .before .before .threes .ensures, front (s .b) (s .m .now) (s .d .0))) (c .before .loop .inv .1)
 
 pub mark-kernel-spec : {M : Type 1} → statement M

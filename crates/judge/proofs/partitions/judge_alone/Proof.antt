@@ -5,6 +5,7 @@ use borrow.Author.Needs.{needs}
 use borrow.Author.Tests.{not-true, not-false}
 use Rattle.walk.specs.Marks.{passed, failed}
 use Rattle.judging.specs.Quick.{partitionTest}
+use Rattle.judge.specs.Bits.{marksIn}
 use Rattle.judge.proofs.Laws.Tree.{alone-bad, alone-unmarked, alone-marked}
 use Rattle.judge.proofs.Laws.Marks.{own-no, own-yes}
 use Rattle.judge.proofs.Laws.Order.{unformed, few, tested}
@@ -32,8 +33,8 @@ returns-2 : tie.Need-returns-2
 returns-2 c =
     let mark-kernel = c .before .before .before .mark-kernel in
     let s = c .before .before .before .before .before .before .before .before .before .args in
-    let kernel = failed _ (mark-kernel .result) (mark-kernel .last .1 .1 .0) (mark-kernel .ensures) (not-true _ (c .if2 .taken)) in (
-      alone-unmarked (partitionTest (s .b) (s .m .now) (s .d .0)) (own-no (s .b) (s .m .now) (s .d .0) (s .seen .now) kernel),
+    let kernel = failed _ (mark-kernel .result) (marksIn (mark-kernel .last .1 .1 .0)) (mark-kernel .ensures) (not-true _ (c .if2 .taken)) in (
+      alone-unmarked (partitionTest (s .b) (s .m .now) (s .d .0)) (own-no (s .b) (s .m .now) (s .d .0) (marksIn (s .seen .now)) kernel),
       λ e. absurd (false≢true e),
     )
 
@@ -49,9 +50,9 @@ returns-3 c =
     let second = c .before .before .before .before .before .before .if2 in
     let tally = c .before .before .before .before .tally in
     let s = c .before .before .before .before .before .before .before .before .before .before .before .before .before .before .before .args in
-    let kernel = passed _ (mark-kernel .result) (mark-kernel .last .1 .1 .0) (mark-kernel .ensures) (not-false _ (second .left)) in
-    let hands = failed _ (tally .result .marked) (tally .last .1 .1 .0) (tally .ensures .0) (not-true _ (c .if3 .taken)) in
-    let own = own-yes (s .b) (s .m .now) (s .d .0) (s .seen .now) (mark-kernel .last .1 .1 .0) kernel ∙ hands in
+    let kernel = passed _ (mark-kernel .result) (marksIn (mark-kernel .last .1 .1 .0)) (mark-kernel .ensures) (not-false _ (second .left)) in
+    let hands = failed _ (tally .result .marked) (marksIn (tally .last .1 .1 .0)) (tally .ensures .0) (not-true _ (c .if3 .taken)) in
+    let own = own-yes (s .b) (s .m .now) (s .d .0) (marksIn (s .seen .now)) (marksIn (mark-kernel .last .1 .1 .0)) kernel ∙ hands in
     (alone-unmarked (partitionTest (s .b) (s .m .now) (s .d .0)) own, λ e. absurd (false≢true e))
 
 tables-test-requires : tie.Need-tables-test-requires
@@ -69,11 +70,11 @@ returns-4 c =
     let tally = c .before .before .before .before .before .tally in
     let third = c .before .if3 in
     let s = c .before .before .before .before .before .before .before .before .before .before .before .before .before .before .before .before .args in
-    let kernel = passed _ (mark-kernel .result) (mark-kernel .last .1 .1 .0) (mark-kernel .ensures) (not-false _ (second .left)) in
-    let hands = passed _ (tally .result .marked) (tally .last .1 .1 .0) (tally .ensures .0) (not-false _ (third .left)) in
+    let kernel = passed _ (mark-kernel .result) (marksIn (mark-kernel .last .1 .1 .0)) (mark-kernel .ensures) (not-false _ (second .left)) in
+    let hands = passed _ (tally .result .marked) (marksIn (tally .last .1 .1 .0)) (tally .ensures .0) (not-false _ (third .left)) in
     let counts = tally .ensures .1 (not-false _ (third .left)) in (
-      alone-marked (tally .last .1 .1 .0) (tested (s .b) (s .m .now) (s .d .0) (forms-test .ensures) (first .left) counts (c .tables-test .ensures))
-          (own-yes (s .b) (s .m .now) (s .d .0) (s .seen .now) (mark-kernel .last .1 .1 .0) kernel ∙ hands),
+      alone-marked (marksIn (tally .last .1 .1 .0)) (tested (s .b) (s .m .now) (s .d .0) (forms-test .ensures) (first .left) counts (c .tables-test .ensures))
+          (own-yes (s .b) (s .m .now) (s .d .0) (marksIn (s .seen .now)) (marksIn (mark-kernel .last .1 .1 .0)) kernel ∙ hands),
       λ e. counts .2,
     )
 

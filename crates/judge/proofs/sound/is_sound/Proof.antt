@@ -1,11 +1,13 @@
--- `judge::sound::is_sound` meets its contract. Assumes nothing.
+-- `judge::sound::is_sound` meets its contract: no memory has more than 4,096 pages. Assumes nothing.
 use mathlib.Core.Path.{ap, _∙_}
-use Prim.Native.Nat.{ℕ}
+use Prim.Native.Nat.{ℕ, _≤_}
 use native.Mathlib.Omega.{arith}
 use Rattle.memory.specs.Edition.{width}
+use Rattle.memory.specs.Partition.{pages}
 use Rattle.soundness.specs.Test.{headerTest}
 use Rattle.forms.proofs.Laws.Tests.{yes, no}
-use Rattle.judge.proofs.Laws.Judged.{unsound-header, verdict}
+use Rattle.judge.specs.Bits.{wordsFor}
+use Rattle.judge.proofs.Laws.Judged.{pages-most, zeros-part, unsound-header, verdict}
 use borrow.Author.Needs.{needs}
 use Rattle.judge.proofs.sound.is_sound.Statement.{statement}
 use Rattle.judge.proofs.sound.is_sound.Tie as tie
@@ -25,17 +27,41 @@ returns c =
 pages-requires : tie.Need-pages-requires
 pages-requires c κs = search needs
 
-judged-small-requires : tie.Need-judged-small-requires
-judged-small-requires c κs = (c .before .before .before .before .width .ensures .1, (yes (c .before .before .before .header-test .ensures) (c .before .before .if1 .left), omega (arith, c .before .pages .ensures)))
+add-words : tie.Need-add-words
+add-words c =
+    let width = c .before .before .before .width in
+    let header = yes (c .before .before .header-test .ensures) (c .before .if1 .left) in
+    omega (arith, c .pages .ensures, pages-most (width .result) (c .before .before .before .before .before .args .m .now) (width .ensures .1 .1) header)
+
+cast-words : tie.Need-cast-words
+cast-words c = search needs
+
+sub-judged-with : tie.Need-sub-judged-with
+sub-judged-with c = search needs
+
+part-seen-start : tie.Need-part-seen-start
+part-seen-start c = search needs
+
+part-seen-end : tie.Need-part-seen-end
+part-seen-end c =
+    let width = c .before .before .before .width in
+    let header = yes (c .before .before .header-test .ensures) (c .before .if1 .left) in
+    omega (arith, c .pages .ensures, pages-most (width .result) (c .before .before .before .before .before .args .m .now) (width .ensures .1 .1) header)
+
+judged-with-requires : tie.Need-judged-with-requires
+judged-with-requires c κs =
+    let s = c .before .before .before .before .before .before .args in
+    let width = c .before .before .before .before .width in
+    let header = yes (c .before .before .before .header-test .ensures) (c .before .before .if1 .left) in
+    let n = c .before .pages in
+    let few : wordsFor (n .result) ≤ 128 = omega (arith, n .ensures, pages-most (width .result) (s .m .now) (width .ensures .1 .1) header) in
+    (width .ensures .1, (header, zeros-part 128 (wordsFor (n .result)) (wordsFor (pages (width .result) (s .m .now))) (ap wordsFor (n .ensures)) few))
 
 returns-2 : tie.Need-returns-2
-returns-2 c = verdict (c .before .before .before .before .before .before .before .args .m .now) (c .before .before .before .before .before .width .ensures .0) (c .before .before .before .before .before .width .ensures .1 .0) (c .judged-small .ensures)
-
-judged-large-requires : tie.Need-judged-large-requires
-judged-large-requires c κs = (c .before .before .before .before .width .ensures .1, yes (c .before .before .before .header-test .ensures) (c .before .before .if1 .left))
-
-returns-3 : tie.Need-returns-3
-returns-3 c = verdict (c .before .before .before .before .before .before .before .args .m .now) (c .before .before .before .before .before .width .ensures .0) (c .before .before .before .before .before .width .ensures .1 .0) (c .judged-large .ensures)
+returns-2 c =
+    let s = c .before .before .before .before .before .before .before .before .args in
+    let width = c .before .before .before .before .before .before .width in
+    verdict (s .m .now) (width .ensures .0) (width .ensures .1 .0) (c .before .judged-with .ensures)
 
 pub is-sound-spec : {M : Type 1} → statement M
 is-sound-spec =
@@ -45,7 +71,10 @@ is-sound-spec =
     header-test-requires
     returns
     pages-requires
-    judged-small-requires
-    returns-2
-    judged-large-requires
-    returns-3)
+    add-words
+    cast-words
+    sub-judged-with
+    part-seen-start
+    part-seen-end
+    judged-with-requires
+    returns-2)

@@ -10,6 +10,7 @@ use Rattle.memory.specs.Words.{page}
 use Rattle.memory.specs.Partition.{directory, shadow1, mapping, inHand}
 use Rattle.memory.proofs.Widths.{words-most}
 use Rattle.judge.specs.Rows.{used}
+use Rattle.judge.specs.Bits.{marksIn}
 use Rattle.judge.proofs.Laws.Search.{next-low, next-high, next-here}
 use mathlib.Core.Bool.{Bool, true, false≢true}
 use mathlib.Core.Option.{some}
@@ -26,7 +27,14 @@ use Rattle.judge.proofs.tally.tally.Statement.{statement}
 use Rattle.judge.proofs.tally.tally.Tie as tie
 
 abbrev Inv-loop : tie.InvT-loop
-Inv-loop b m seen₀ dir sh1 mapped₀ shut₀ due₀ i₀ seen mapped shut due i = (i ≤ length dir) × (i < length dir → used dir i ≡ true) × (mapped ≤ 1024 * i) × (shut ≤ 1024 * i) × (due ≤ 13194139538432 * i) × ((d : ℕ) → dir ≡ page b m (directory b m d) → sh1 ≡ page b m (shadow1 b m d) → (mappedCount b m d ≡ run (rowStep b m (adding (mappedAt b m d)) d) mapped (from (pageWords b - i) i)) × (shutCount b m d ≡ run (rowStep b m (adding (shutAt b m d)) d) shut (from (pageWords b - i) i)) × (dueCount b m d ≡ run (rowStep b m (adding (dueAt b m d)) d) due (from (pageWords b - i) i)) × (marks seen₀ (handPages b m d) ≡ run (rowStep b m (handAt b m d) d) (some seen) (from (pageWords b - i) i))) × (length seen ≡ length seen₀)
+Inv-loop b m seen₀ dir sh1 mapped₀ shut₀ due₀ i₀ seen mapped shut due i =
+    (i ≤ length dir) × (i < length dir → used dir i ≡ true) × (mapped ≤ 1024 * i) × (shut ≤ 1024 * i) × (due ≤ 13194139538432 * i)
+    × ((d : ℕ) → dir ≡ page b m (directory b m d) → sh1 ≡ page b m (shadow1 b m d)
+    → (mappedCount b m d ≡ run (rowStep b m (adding (mappedAt b m d)) d) mapped (from (pageWords b - i) i))
+    × (shutCount b m d ≡ run (rowStep b m (adding (shutAt b m d)) d) shut (from (pageWords b - i) i))
+    × (dueCount b m d ≡ run (rowStep b m (adding (dueAt b m d)) d) due (from (pageWords b - i) i))
+    × (marks (marksIn seen₀) (handPages b m d) ≡ run (rowStep b m (handAt b m d) d) (some (marksIn seen)) (from (pageWords b - i) i)))
+    × (length seen ≡ length seen₀)
 
 abbrev μ-loop : tie.MeasureT-loop
 μ-loop b m seen₀ dir sh1 mapped₀ shut₀ due₀ i₀ seen mapped shut due i = length dir - i
@@ -54,7 +62,13 @@ loop-holds c = let s = c .before .before .before .before .before .before .before
       omega arith,
       omega arith,
       omega arith,
-      (λ d e e1. (rows-first (s .b) (s .m .now) (adding (mappedAt (s .b) (s .m .now) d)) d dir e 0 (mapped-run (s .b) (s .m .now) d) (c .next-word .ensures), rows-first (s .b) (s .m .now) (adding (shutAt (s .b) (s .m .now) d)) d dir e 0 (shut-run (s .b) (s .m .now) d) (c .next-word .ensures), rows-first (s .b) (s .m .now) (adding (dueAt (s .b) (s .m .now) d)) d dir e 0 (due-run (s .b) (s .m .now) d) (c .next-word .ensures), rows-first (s .b) (s .m .now) (handAt (s .b) (s .m .now) d) d dir e (some (s .seen .now)) (hands-run (s .b) (s .m .now) d (s .seen .now)) (c .next-word .ensures))),
+      (λ d e e1. (
+        rows-first (s .b) (s .m .now) (adding (mappedAt (s .b) (s .m .now) d)) d dir e 0 (mapped-run (s .b) (s .m .now) d) (c .next-word .ensures),
+        rows-first (s .b) (s .m .now) (adding (shutAt (s .b) (s .m .now) d)) d dir e 0 (shut-run (s .b) (s .m .now) d) (c .next-word .ensures),
+        rows-first (s .b) (s .m .now) (adding (dueAt (s .b) (s .m .now) d)) d dir e 0 (due-run (s .b) (s .m .now) d) (c .next-word .ensures),
+        rows-first (s .b) (s .m .now) (handAt (s .b) (s .m .now) d) d dir e (some (marksIn (s .seen .now)))
+            (hands-run (s .b) (s .m .now) d (marksIn (s .seen .now))) (c .next-word .ensures),
+      )),
       refl,
     )
 
@@ -104,9 +118,11 @@ returns c =
     let e1 = words-of2 .ensures ∙ ap (page (s .b) (s .m .now)) (shadow1 .ensures) in
     let marked = not-true (tally-row .result .marked) (c .if1 .taken) in (
       rows-stop (s .b) (s .m .now) (inHand (s .b) (s .m .now) (s .d .0)) (λ t v. mark t (pageOf (s .b) (mapping (s .b) (s .m .now) (s .d .0) v))) (s .d .0)
-          (words-of .result .now) e (p .i) (some (p .seen)) (test .taken)
-          (hands-row (s .b) (s .m .now) (s .d .0) (p .i) e (test .taken) (p .inv .1 (test .taken)) (table-of .ensures) e1 (read .ensures) (table-of2 .ensures) (some (p .seen)) ∙ failed _ (tally-row .result .marked) (tally-row .last .1 .1 .0) (tally-row .ensures .0) marked)
-          (p .inv .5 (s .d .0) e e1 .3) ∙ sym (ap (λ (t : Bool). answer t (tally-row .last .1 .1 .0)) marked),
+          (words-of .result .now) e (p .i) (some (marksIn (p .seen))) (test .taken)
+          (hands-row (s .b) (s .m .now) (s .d .0) (p .i) e (test .taken) (p .inv .1 (test .taken)) (table-of .ensures) e1 (read .ensures)
+          (table-of2 .ensures) (some (marksIn (p .seen)))
+          ∙ failed _ (tally-row .result .marked) (marksIn (tally-row .last .1 .1 .0)) (tally-row .ensures .0) marked)
+          (p .inv .5 (s .d .0) e e1 .3) ∙ sym (ap (λ (t : Bool). answer t (marksIn (tally-row .last .1 .1 .0))) marked),
       λ z. absurd (false≢true (sym marked ∙ z)),
     )
 
@@ -180,7 +196,21 @@ loop-again c =
       omega (arith, low, tally-row .ensures .1 (not-false _ (first .left)) .3, p .inv .2),
       omega (arith, low, tally-row .ensures .1 (not-false _ (first .left)) .4, p .inv .3),
       omega (arith, low, tally-row .ensures .1 (not-false _ (first .left)) .5, p .inv .4),
-      (λ d e e1. (rows-next (s .b) (s .m .now) (adding (mappedAt (s .b) (s .m .now) d)) d dir e (p .mapped) (p .mapped + tally-row .result .mapped) (test .taken) (mapped-row (s .b) (s .m .now) d (p .i) e (test .taken) (p .inv .1 (test .taken)) (table-of .ensures) (p .mapped) (tally-row .ensures .1 (not-false _ (first .left)) .0)) (c .next-word2 .ensures) (p .inv .5 d e e1 .0), rows-next (s .b) (s .m .now) (adding (shutAt (s .b) (s .m .now) d)) d dir e (p .shut) (p .shut + tally-row .result .shut) (test .taken) (shut-row (s .b) (s .m .now) d (p .i) e (test .taken) (p .inv .1 (test .taken)) (table-of .ensures) e1 (read .ensures) (table-of2 .ensures) (p .shut) (tally-row .ensures .1 (not-false _ (first .left)) .1)) (c .next-word2 .ensures) (p .inv .5 d e e1 .1), rows-next (s .b) (s .m .now) (adding (dueAt (s .b) (s .m .now) d)) d dir e (p .due) (p .due + tally-row .result .due) (test .taken) (due-row (s .b) (s .m .now) d (p .i) e (test .taken) (p .inv .1 (test .taken)) (table-of .ensures) e1 (read .ensures) (table-of2 .ensures) (p .due) (tally-row .ensures .1 (not-false _ (first .left)) .2)) (c .next-word2 .ensures) (p .inv .5 d e e1 .2), rows-next (s .b) (s .m .now) (handAt (s .b) (s .m .now) d) d dir e (some (p .seen)) (some (tally-row .last .1 .1 .0)) (test .taken) (sym (hands-row (s .b) (s .m .now) d (p .i) e (test .taken) (p .inv .1 (test .taken)) (table-of .ensures) e1 (read .ensures) (table-of2 .ensures) (some (p .seen)) ∙ passed _ (tally-row .result .marked) _ (tally-row .ensures .0) (not-false _ (first .left)))) (c .next-word2 .ensures) (p .inv .5 d e e1 .3))),
+      (λ d e e1. (
+        rows-next (s .b) (s .m .now) (adding (mappedAt (s .b) (s .m .now) d)) d dir e (p .mapped) (p .mapped + tally-row .result .mapped)
+            (test .taken) (mapped-row (s .b) (s .m .now) d (p .i) e (test .taken) (p .inv .1 (test .taken)) (table-of .ensures) (p .mapped)
+            (tally-row .ensures .1 (not-false _ (first .left)) .0)) (c .next-word2 .ensures) (p .inv .5 d e e1 .0),
+        rows-next (s .b) (s .m .now) (adding (shutAt (s .b) (s .m .now) d)) d dir e (p .shut) (p .shut + tally-row .result .shut) (test .taken)
+            (shut-row (s .b) (s .m .now) d (p .i) e (test .taken) (p .inv .1 (test .taken)) (table-of .ensures) e1 (read .ensures) (table-of2 .ensures)
+            (p .shut) (tally-row .ensures .1 (not-false _ (first .left)) .1)) (c .next-word2 .ensures) (p .inv .5 d e e1 .1),
+        rows-next (s .b) (s .m .now) (adding (dueAt (s .b) (s .m .now) d)) d dir e (p .due) (p .due + tally-row .result .due) (test .taken)
+            (due-row (s .b) (s .m .now) d (p .i) e (test .taken) (p .inv .1 (test .taken)) (table-of .ensures) e1 (read .ensures) (table-of2 .ensures) (p .due)
+            (tally-row .ensures .1 (not-false _ (first .left)) .2)) (c .next-word2 .ensures) (p .inv .5 d e e1 .2),
+        rows-next (s .b) (s .m .now) (handAt (s .b) (s .m .now) d) d dir e (some (marksIn (p .seen))) (some (marksIn (tally-row .last .1 .1 .0)))
+            (test .taken) (sym (hands-row (s .b) (s .m .now) d (p .i) e (test .taken) (p .inv .1 (test .taken)) (table-of .ensures) e1 (read .ensures)
+            (table-of2 .ensures) (some (marksIn (p .seen))) ∙ passed _ (tally-row .result .marked) _ (tally-row .ensures .0) (not-false _ (first .left))))
+            (c .next-word2 .ensures) (p .inv .5 d e e1 .3),
+      )),
       tally-row .kept .1 .1 .0 ∙ p .inv .6,
     )
 
@@ -196,7 +226,7 @@ returns-2 c =
     let e = words-of .ensures ∙ ap (page (s .b) (s .m .now)) (directory .ensures) in
     let e1 = c .before .before .before .words-of2 .ensures ∙ ap (page (s .b) (s .m .now)) (c .before .before .before .before .shadow1 .ensures) in
     let i = c .before .loop .inv .5 (s .d .0) e e1 in (
-      rows-end (s .b) (s .m .now) (handAt (s .b) (s .m .now) (s .d .0)) (s .d .0) dir e (some (c .before .loop .seen)) (c .loop-test .left) (i .3),
+      rows-end (s .b) (s .m .now) (handAt (s .b) (s .m .now) (s .d .0)) (s .d .0) dir e (some (marksIn (c .before .loop .seen))) (c .loop-test .left) (i .3),
       λ z. (sym (rows-end (s .b) (s .m .now) (adding (mappedAt (s .b) (s .m .now) (s .d .0))) (s .d .0) dir e (c .before .loop .mapped) (c .loop-test .left) (i .0)), sym (rows-end (s .b) (s .m .now) (adding (shutAt (s .b) (s .m .now) (s .d .0))) (s .d .0) dir e (c .before .loop .shut) (c .loop-test .left) (i .1)), sym (rows-end (s .b) (s .m .now) (adding (dueAt (s .b) (s .m .now) (s .d .0))) (s .d .0) dir e (c .before .loop .due) (c .loop-test .left) (i .2))),
     )
 

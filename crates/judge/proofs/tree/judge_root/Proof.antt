@@ -3,6 +3,7 @@ use mathlib.Core.Path.{_∙_}
 use borrow.Author.Needs.{needs}
 use borrow.Author.Tests.{not-true, not-false}
 use Rattle.walk.specs.Marks.{passed, failed}
+use Rattle.judge.specs.Bits.{marksIn}
 use Rattle.judge.proofs.Laws.Tree.{alone-no, alone-yes, no-child}
 use Rattle.judge.proofs.tree.judge_root.Statement.{statement}
 use Rattle.judge.proofs.tree.judge_root.Tie as tie
@@ -16,7 +17,7 @@ same-length c = search needs
 returns : tie.Need-returns
 returns c =
     let judge-alone = c .before .before .before .before .judge-alone in
-    alone-no _ _ _ _ _ _ (failed _ (judge-alone .result .passed) (judge-alone .last .1 .1 .0) (judge-alone .ensures .0) (not-true _ (c .if1 .taken)))
+    alone-no _ _ _ _ _ _ (failed _ (judge-alone .result .passed) (marksIn (judge-alone .last .1 .1 .0)) (judge-alone .ensures .0) (not-true _ (c .if1 .taken)))
 
 same-length-2 : tie.Need-same-length-2
 same-length-2 c = search needs
@@ -26,9 +27,9 @@ returns-2 c =
     let judge-alone = c .before .before .before .before .before .before .judge-alone in
     let s = c .before .before .before .before .before .before .before .before .before .before .args in
     let first = c .before .before .if1 in
-    let marked = passed _ (judge-alone .result .passed) (judge-alone .last .1 .1 .0) (judge-alone .ensures .0) (not-false _ (first .left)) in
-    alone-yes _ _ _ _ _ _ (judge-alone .last .1 .1 .0) marked
-    ∙ no-child (s .b) (s .m .now) _ (judge-alone .last .1 .1 .0) 1 (judge-alone .ensures .1 (not-false _ (first .left))) (c .if2 .taken)
+    let marked = passed _ (judge-alone .result .passed) (marksIn (judge-alone .last .1 .1 .0)) (judge-alone .ensures .0) (not-false _ (first .left)) in
+    alone-yes _ _ _ _ _ _ (marksIn (judge-alone .last .1 .1 .0)) marked
+    ∙ no-child (s .b) (s .m .now) _ (marksIn (judge-alone .last .1 .1 .0)) 1 (judge-alone .ensures .1 (not-false _ (first .left))) (c .if2 .taken)
 
 judge-children-requires : tie.Need-judge-children-requires
 judge-children-requires c κs = search needs
@@ -40,8 +41,8 @@ returns-3 : tie.Need-returns-3
 returns-3 c =
     let judge-alone = c .before .before .before .before .before .before .before .before .before .before .judge-alone in
     let first = c .before .before .before .before .before .before .if1 in
-    let marked = passed _ (judge-alone .result .passed) (judge-alone .last .1 .1 .0) (judge-alone .ensures .0) (not-false _ (first .left)) in
-    alone-yes _ _ _ _ _ _ (judge-alone .last .1 .1 .0) marked ∙ c .before .before .judge-children .ensures
+    let marked = passed _ (judge-alone .result .passed) (marksIn (judge-alone .last .1 .1 .0)) (judge-alone .ensures .0) (not-false _ (first .left)) in
+    alone-yes _ _ _ _ _ _ (marksIn (judge-alone .last .1 .1 .0)) marked ∙ c .before .before .judge-children .ensures
 
 pub judge-root-spec : {M : Type 1} → statement M
 judge-root-spec =

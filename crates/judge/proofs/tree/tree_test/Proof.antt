@@ -2,7 +2,10 @@
 use mathlib.Core.Path.{sym, _∙_}
 use borrow.Author.Tests.{not-true, not-false}
 use Rattle.walk.specs.Marks.{passed, failed}
+use Rattle.memory.specs.Geometry.{mostDepth}
+use Rattle.judge.specs.Bits.{marksIn}
 use Rattle.judge.proofs.Laws.Judged.{judged-no, judged-yes}
+use Rattle.judge.proofs.Laws.Outside.{within-no, within-yes}
 use borrow.Author.Needs.{needs}
 use Rattle.judge.proofs.tree.tree_test.Statement.{statement}
 use Rattle.judge.proofs.tree.tree_test.Tie as tie
@@ -17,7 +20,10 @@ returns : tie.Need-returns
 returns c =
     let s = c .before .before .before .before .before .before .before .args in
     let judge-root = c .before .before .before .judge-root in
-    judged-no (s .b) (s .m .now) (failed _ (judge-root .result) (judge-root .last .1 .1 .0) (judge-root .ensures) (not-true _ (c .if1 .taken)))
+    let h = c .before .before .before .before .before .before .before .pre in
+    judged-no (s .b) (s .m .now)
+    (within-no _ (s .seen .now) (h .1) _ _ _ _ _
+    (failed _ (judge-root .result) (marksIn (judge-root .last .1 .1 .0)) (judge-root .ensures) (not-true _ (c .if1 .taken))))
 
 all-marked-requires : tie.Need-all-marked-requires
 all-marked-requires c κs = search needs
@@ -30,9 +36,10 @@ returns-2 c =
     let s = c .before .before .before .before .before .before .before .before .before .args in
     let h = c .before .before .before .before .before .before .before .before .before .pre in
     let judge-root = c .before .before .before .before .before .judge-root in
-    c .all-marked .ensures ∙ sym
-    (judged-yes (s .b) (s .m .now) (judge-root .last .1 .1 .0)
-    (passed _ (judge-root .result) _ (judge-root .ensures) (not-false _ (c .before .before .if1 .left))) (judge-root .kept .1 .1 .0 ∙ h .1))
+    let w = within-yes _ (s .seen .now) (h .1) _ _ _ mostDepth 1
+    (judge-root .last .1 .1 .0) (judge-root .kept .1 .1 .0)
+    (passed _ (judge-root .result) (marksIn (judge-root .last .1 .1 .0)) (judge-root .ensures) (not-false _ (c .before .before .if1 .left))) in
+    c .all-marked .ensures ∙ sym (judged-yes (s .b) (s .m .now) (w .0) (w .1) ∙ w .2)
 
 pub tree-test-spec : {M : Type 1} → statement M
 tree-test-spec =
