@@ -4,4 +4,5 @@ pub mod Indices
 pub mod Formatted
 pub mod Runs
 pub mod Asked
+pub mod Met
 pub mod Whole

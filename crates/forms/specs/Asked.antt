@@ -1,10 +1,11 @@
 -- What the code asks at one index or of one pair, put together from the tests of the crate soundness. Assumes nothing.
 use mathlib.Core.Path.{_≡_}
 use mathlib.Core.List.{List}
-use mathlib.Core.Bool.{Bool, true, cond, not, _&&_, _||_}
-use Prim.Native.Nat.{ℕ, _+_, _-_, _*_, _≤_}
-use lib.Dec.{eqb}
-use Rattle.walk.specs.Finite.{from, all, once}
+use mathlib.Core.Bool.{Bool, true, false, cond, not, _&&_, _||_}
+use Prim.Native.Nat.{ℕ, _+_, _-_, _*_, _≤_, _<_}
+use lib.Dec.{ltb, eqb}
+use lib.ListN.{length, getD}
+use Rattle.walk.specs.Finite.{from, all, keep, once}
 use Rattle.memory.specs.Geometry.{pageWords}
 use Rattle.memory.specs.Words.{word}
 use Rattle.memory.specs.Partition.{directory, shadow1, shadow2, list, threes}
@@ -17,10 +18,6 @@ module _ (b : ℕ) (m : List ℕ) where
       tableLink b m w && tableLink b m x && tableLink b m y
       && cond (eqb w 0) (eqb x 0 && eqb y 0) (not (eqb x 0) && not (eqb y 0))
 
-  -- the words of index i of d's directory and shadows are w, x and y
-  unfoldable pub alike : ℕ → ℕ → ℕ → ℕ → ℕ → Bool
-  alike d w x y i = eqb (word b m (directory b m d) i) w && eqb (word b m (shadow1 b m d) i) x && eqb (word b m (shadow2 b m d) i) y
-
   -- three j of d's list stands where the words are w, x and y
   unfoldable pub listedAs : ℕ → ℕ → ℕ → ℕ → ℕ → Bool
   listedAs d w x y j =
@@ -28,11 +25,17 @@ module _ (b : ℕ) (m : List ℕ) where
 
   -- index i of d has no tables; it has the forms, and has no tables or is listed once
   unfoldable pub noTables : ℕ → ℕ → Bool
-  noTables d i = alike d 0 0 0 i
+  noTables d i = eqb (word b m (directory b m d) i) 0 && eqb (word b m (shadow1 b m d) i) 0 && eqb (word b m (shadow2 b m d) i) 0
 
   unfoldable pub indexTest : ℕ → ℕ → Bool
   indexTest d i =
       directoryTest b m d i && (eqb (word b m (directory b m d) i) 0 || once (λ j. stands b m d j i) (from (threes b m d) 0))
+
+  -- what is left to ask from index i on: each index passes, and each three, which was met below i as often as met says, is met once in all
+  unfoldable pub indicesLeft : ℕ → List ℕ → ℕ → Bool
+  indicesLeft d met i =
+      all (indexTest d) (from (pageWords b - i) i)
+      && all (λ j. eqb (getD met j 0 + length (keep (stands b m d j) (from (pageWords b - i) i))) 1) (from (threes b m d) 0)
 
   -- pair j of page p, whose pairs start at word k: its form, and how it stands in the tables of d
   unfoldable pub pairForm : ℕ → ℕ → ℕ → Bool
@@ -46,3 +49,16 @@ pub record Skipped (b : ℕ) (m : List ℕ) (d i r : ℕ) : Type 0 where
   pub low : i ≤ r
   pub high : r ≤ pageWords b
   pub empty : all (noTables b m d) (from (r - i) i) ≡ true
+
+-- r is the first number from i on and below n at which f holds, or n
+pub record First (f : ℕ → Bool) (n i r : ℕ) : Type 0 where
+  pub low : i ≤ r
+  pub high : r ≤ n
+  pub passed : (k : ℕ) → i ≤ k → k < r → f k ≡ false
+  pub found : r < n → f r ≡ true
+
+-- r is the one number below n at which f holds, or n where it holds at none or more
+pub record Sole (f : ℕ → Bool) (n r : ℕ) : Type 0 where
+  pub high : r ≤ n
+  pub holds : r < n → f r ≡ true
+  pub sole : once f (from n 0) ≡ ltb r n

@@ -5,7 +5,6 @@ use crate::own::Own;
 use crate::own::list_at;
 use crate::own::look_up;
 use crate::pairs::pairs_form;
-use crate::threes::threes_once;
 use crate::words::zero_from;
 use pages::PhysicalPage;
 use pages::read_word;
@@ -74,8 +73,5 @@ pub fn forms_test(b: u32, m: &[u32], d: PhysicalPage) -> bool
     if !list_test(b, m, o) {
         return false;
     }
-    if !indices_test(b, m, o) {
-        return false;
-    }
-    threes_once(b, m, o)
+    indices_test(b, m, o)
 }

@@ -2,20 +2,16 @@
 use crate::own::Own;
 use crate::own::Three;
 use crate::own::list_at;
-use crate::own::words_at;
-use pages::page_words;
 ghost use mathlib.Core.Path.{_≡_};
-ghost use mathlib.Core.Bool.{cond, _&&_};
-ghost use Prim.Native.Nat.{_+_, _*_, _<_};
+ghost use mathlib.Core.Bool.{_&&_};
+ghost use Prim.Native.Nat.{_+_, _*_, _<_, _≤_};
 ghost use lib.Dec.{eqb};
-ghost use lib.ListN.{length};
-ghost use Rattle.walk.specs.Finite.{from, all, keep, once};
-ghost use Rattle.memory.specs.Geometry.{pageWords};
+ghost use lib.ListN.{length, getD};
+ghost use Rattle.walk.specs.Finite.{from, all};
 ghost use Rattle.memory.specs.Words.{word};
 ghost use Rattle.memory.specs.Partition;
-ghost use Rattle.soundness.specs.Test;
-ghost use Rattle.forms.specs.Asked.{alike, listedAs};
-ghost use Rattle.forms.specs.Named.{Named, Listed};
+ghost use Rattle.forms.specs.Asked.{listedAs, First, Sole};
+ghost use Rattle.forms.specs.Named.{Listed};
 ghost use Rattle.pages.specs.Width.{Width};
 
 // The words with which three j of the list stands: page table, shadow 1 table, shadow 2 table, and 1 more.
@@ -49,62 +45,54 @@ fn same(t: Three, u: Three) -> bool
     t.2 == u.2
 }
 
-fn bit(x: bool) -> u32
-    ensures { λ r. ⌜ r ≡ cond x 1 0 ⌝ }
-{
-    if x { 1 } else { 0 }
-}
-
-// At how many indices the words are t.
-fn standing(b: u32, m: &[u32], o: Own, t: Three) -> u32
+// The first three from j on whose words are t, or the list's end.
+fn next_listed(b: u32, m: &[u32], o: Own, t: Three, j: u32) -> u32
     requires { ⌜ Width b ⌝ }
-    requires named { ⌜ Named b (now m) o ⌝ }
-    ensures { λ r. ⌜ r ≡ length (keep (alike b (now (m .entry)) (o .descriptor .0) (t .0) (t .1) (t .2)) (from (pageWords b) 0)) ⌝ }
+    requires listed { ⌜ Listed b (now m) o ⌝ }
+    requires start { ⌜ j ≤ Partition.threes b (now m) (o .descriptor .0) ⌝ }
+    ensures { λ r.
+        ⌜ First (listedAs b (now (m .entry)) (o .descriptor .0) (t .0) (t .1) (t .2)) (Partition.threes b (now (m .entry)) (o .descriptor .0)) j r ⌝ }
 {
-    let n = page_words(b);
-    let mut found: u32 = 0;
-    let mut i: u32 = 0;
-    while i < n {
-        found += bit(same(words_at(b, m, o, i), t));
-        i += 1;
+    let n = o.threes;
+    let mut k = j;
+    while k < n {
+        if same(t, three_of(b, m, o, k)) {
+            return k;
+        }
+        k += 1;
     }
-    found
+    k
 }
 
-// Each three of the list stands at one index.
-pub fn threes_once(b: u32, m: &[u32], o: Own) -> bool
+// The place of the one three whose words are t, or the list's end where t is not listed once.
+pub fn place(b: u32, m: &[u32], o: Own, t: Three) -> u32
     requires { ⌜ Width b ⌝ }
     requires listed { ⌜ Listed b (now m) o ⌝ }
     ensures { λ r.
-        ⌜
-        r
-        ≡ all (λ j. once (Test.stands b (now (m .entry)) (o .descriptor .0) j) (from (pageWords b) 0)) (from (Partition.threes b (now (m .entry)) (o .descriptor .0)) 0)
-        ⌝ }
+        ⌜ Sole (listedAs b (now (m .entry)) (o .descriptor .0) (t .0) (t .1) (t .2)) (Partition.threes b (now (m .entry)) (o .descriptor .0)) r ⌝ }
 {
     let n = o.threes;
+    let j = next_listed(b, m, o, t, 0);
+    if j == n {
+        return n;
+    }
+    if next_listed(b, m, o, t, j + 1) < n {
+        return n;
+    }
+    j
+}
+
+// Each of n threes was met once.
+pub fn all_met(met: &[u8], n: u32) -> bool
+    requires { ⌜ n ≤ length (now met) ⌝ }
+    ensures { λ r. ⌜ r ≡ all (λ j. eqb (getD (now (met .entry)) j 0) 1) (from n 0) ⌝ }
+{
     let mut j: u32 = 0;
     while j < n {
-        if standing(b, m, o, three_of(b, m, o, j)) != 1 {
+        if met[j as usize] != 1 {
             return false;
         }
         j += 1;
     }
     true
-}
-
-// The words t of an index are listed once.
-pub fn listed_once(b: u32, m: &[u32], o: Own, t: Three) -> bool
-    requires { ⌜ Width b ⌝ }
-    requires listed { ⌜ Listed b (now m) o ⌝ }
-    ensures { λ r.
-        ⌜ r ≡ once (listedAs b (now (m .entry)) (o .descriptor .0) (t .0) (t .1) (t .2)) (from (Partition.threes b (now (m .entry)) (o .descriptor .0)) 0) ⌝ }
-{
-    let n = o.threes;
-    let mut found: u32 = 0;
-    let mut j: u32 = 0;
-    while j < n {
-        found += bit(same(t, three_of(b, m, o, j)));
-        j += 1;
-    }
-    found == 1
 }

@@ -8,18 +8,17 @@ use native.Mathlib.Omega.{arith}
 use native.Mathlib.Decide.{decLt}
 use lib.Bits.{bitOr}
 use lib.Dec.{leb, eqb}
-use lib.ListN.{length}
 use borrow.Author.Tests.{eqb-true, eq-eqb, ne-eqb}
-use Rattle.walk.specs.Finite.{from, all, keep, once}
+use Rattle.walk.specs.Finite.{from, all, once}
 use Rattle.memory.specs.Geometry.{pageWords, address, pageOf}
 use Rattle.memory.specs.Words.{word}
 use Rattle.memory.specs.Entry.{accessible}
 use Rattle.memory.specs.Partition.{directory, shadow1, shadow2, list, threes, tableWord, mapping, lent}
 use Rattle.soundness.specs.Test.{virtual, physical, tableLink, directoryTest, stands, agrees, shutAt}
-use Rattle.forms.specs.Asked.{links, alike, listedAs, noTables, indexTest, Skipped, pairForm, pairShut}
+use Rattle.forms.specs.Asked.{links, listedAs, noTables, indexTest, Skipped, pairForm, pairShut}
 use Rattle.forms.specs.Named.{WordsAt}
 use Rattle.forms.proofs.Laws.Tests.{and-false, and-fst, and-snd}
-use Rattle.forms.proofs.Laws.Loops.{all-at, all-yes, all-skip}
+use Rattle.forms.proofs.Laws.Loops.{all-at, all-yes}
 use Rattle.forms.proofs.Laws.Runs.{or-zero}
 
 -- ---- the words of an index
@@ -41,12 +40,8 @@ module _ (b : ℕ) (m : List ℕ) (w x y : ℕ) where
 -- w, x and y are the words of index i of d's directory and shadows
 module _ (b : ℕ) (m : List ℕ) (d i : ℕ) {w x y : ℕ} (h : WordsAt b m d i w x y) where
   pub joined-as : eqb (bitOr (bitOr w x) y) 0 ≡ noTables b m d i
-  unfolding noTables alike
+  unfolding noTables
   joined-as = or-zero (bitOr w x) y ∙ ap (λ (t : Bool). t && eqb y 0) (or-zero w x) ∙ rw (h .in-directory, h .in-shadow1, h .in-shadow2) refl
-
-  pub alike-as : (u v z : ℕ) → eqb w u && eqb x v && eqb y z ≡ alike b m d u v z i
-  unfolding alike
-  alike-as u v z = rw (h .in-directory, h .in-shadow1, h .in-shadow2) refl
 
   links-as : directoryTest b m d i ≡ links b m w x y
   unfolding directoryTest links
@@ -64,9 +59,9 @@ module _ (b : ℕ) (m : List ℕ) (d i : ℕ) {w x y : ℕ} (h : WordsAt b m d i
   unfolding indexTest listedAs stands
   index-some l n = rw (links-as, l, ne-eqb (word b m (directory b m d) i) 0 (λ z. n (h .in-directory ∙ z)), h .in-directory, h .in-shadow1, h .in-shadow2) refl
 
--- an index without tables passes, and so does a row of them
-no-tables : (b : ℕ) (m : List ℕ) (d i : ℕ) → noTables b m d i ≡ true → indexTest b m d i ≡ true
-unfolding noTables alike
+-- an index without tables passes
+pub no-tables : (b : ℕ) (m : List ℕ) (d i : ℕ) → noTables b m d i ≡ true → indexTest b m d i ≡ true
+unfolding noTables
 no-tables b m d i h =
     let p = word b m (directory b m d) i in
     let q = word b m (shadow1 b m d) i in
@@ -74,9 +69,6 @@ no-tables b m d i h =
     let k = and-fst (eqb p 0 && eqb q 0) (eqb r 0) h in
     let e : p ≡ 0 = eqb-true p 0 (and-fst (eqb p 0) (eqb q 0) k) in
     sym (index-none b m d i {w = p} {x = q} {y = r} record { in-directory = refl; in-shadow1 = refl; in-shadow2 = refl } (links-none b m p q r e ∙ rw (and-snd (eqb p 0) (eqb q 0) k, and-snd (eqb p 0 && eqb q 0) (eqb r 0) h) refl) e)
-
-row-passes : (b : ℕ) (m : List ℕ) (d n i : ℕ) → all (noTables b m d) (from n i) ≡ true → all (indexTest b m d) (from n i) ≡ true
-row-passes b m d n i h = all-yes (indexTest b m d) n i (λ x a l. no-tables b m d x (all-at (noTables b m d) n i h x a l))
 
 -- ---- past the indices that have no tables
 
@@ -95,23 +87,12 @@ module _ (b : ℕ) (m : List ℕ) (d : ℕ) where
   pub skip-one : {i k : ℕ} → Skipped b m d i k → k < pageWords b → noTables b m d k ≡ true → Skipped b m d i (k + 1)
   skip-one {i} {k} s h e = skip-by 1 s (omega arith) (all-yes (noTables b m d) 1 k (λ x a l. let q : x ≡ k = omega arith in ap (noTables b m d) q ∙ e))
 
-  -- the rest, once they are passed
-  pub skip-on : {o : Bool} {i r : ℕ} → Skipped b m d i r → o ≡ all (indexTest b m d) (from (pageWords b - i) i) → o ≡ all (indexTest b m d) (from (pageWords b - r) r)
-  skip-on {o} {i} {r} s v =
-      let e : i + (r - i) ≡ r = omega (arith, s .low) in
-      v ∙ all-skip (indexTest b m d) (r - i) (pageWords b) i (omega (arith, s .low, s .high)) (row-passes b m d (r - i) i (s .empty))
-      ∙ ap (λ (x : ℕ). all (indexTest b m d) (from (pageWords b - x) x)) e
-
 -- ---- a three of the list: u, v and z are the words with which it stands
 
 module _ (b : ℕ) (m : List ℕ) (d j : ℕ) {u v z : ℕ} (e : u ≡ word b m (list b m d) (2 + 6 * j) + 1) (q : v ≡ word b m (list b m d) (4 + 6 * j) + 1) (s : z ≡ word b m (list b m d) (6 + 6 * j) + 1) where
   pub listed-as : (w x y : ℕ) → eqb w u && eqb x v && eqb y z ≡ listedAs b m d w x y j
   unfolding listedAs
   listed-as w x y = rw (e, q, s) refl
-
-  pub three-as : {r : ℕ} → r ≡ length (keep (alike b m d u v z) (from (pageWords b) 0)) → eqb r 1 ≡ once (stands b m d j) (from (pageWords b) 0)
-  unfolding once alike stands
-  three-as h = rw (h, e, q, s) refl
 
 -- ---- a pair: v and a are its words
 

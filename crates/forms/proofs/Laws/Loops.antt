@@ -4,10 +4,10 @@ use mathlib.Core.List.{List, [], _∷_}
 use mathlib.Core.Bool.{Bool, true, false, cond, not, _&&_, _||_}
 use Prim.Native.Nat.{ℕ, zero, suc, _+_, _-_, _≤_, _<_}
 use native.Mathlib.Omega.{arith}
-use lib.Dec.{leb, eqb}
+use lib.Dec.{leb}
 use lib.ListN.{length}
 use borrow.Author.Tests.{le-leb, lt-leb}
-use Rattle.walk.specs.Finite.{from, from-in, in-from, all, all?, keep, once}
+use Rattle.walk.specs.Finite.{from, from-in, in-from, all, all?, keep}
 use Rattle.forms.proofs.Laws.Tests.{yes, no, and-assoc, and-swap}
 
 from-next : (n i : ℕ) → i < n → from (n - i) i ≡ i ∷ from (n - (i + 1)) (i + 1)
@@ -21,7 +21,7 @@ from-end : (n i : ℕ) → n ≤ i → from (n - i) i ≡ []
 unfolding from
 from-end n i h = let e : n - i ≡ 0 = omega arith in ap (λ (k : ℕ). from k i) e
 
-from-start : (n : ℕ) → from n 0 ≡ from (n - 0) 0
+pub from-start : (n : ℕ) → from n 0 ≡ from (n - 0) 0
 from-start n = let e : n ≡ n - 0 = omega arith in ap (λ (k : ℕ). from k 0) e
 
 pub all-go-on : (f : ℕ → Bool) (n i : ℕ) → i < n → all f (from (n - i) i) ≡ f i && all f (from (n - (i + 1)) (i + 1))
@@ -78,12 +78,6 @@ all-part f (suc k) n i =
     ∙ ap (λ (t : Bool). f i && t) (all-part f k n (suc i) ∙ ap (λ (x : ℕ). all f (from k (suc i)) && all f (from n x)) q)
     ∙ and-assoc (f i) (all f (from k (suc i))) (all f (from n (i + suc k)))
 
--- past k that pass
-pub all-skip : (f : ℕ → Bool) (k n i : ℕ) → i + k ≤ n → all f (from k i) ≡ true → all f (from (n - i) i) ≡ all f (from (n - (i + k)) (i + k))
-all-skip f k n i h e =
-    let q : n - i ≡ k + (n - (i + k)) = omega arith in
-    ap (λ (x : ℕ). all f (from x i)) q ∙ all-part f k (n - (i + k)) i ∙ rw e refl
-
 -- f is g from k on: the first k, and what g says of the rest
 all-rest : (f g : ℕ → Bool) (k n : ℕ) → k ≤ n → ((i : ℕ) → k ≤ i → i < n → f i ≡ g i) → all f (from n 0) ≡ all f (from k 0) && all (λ i. not (leb k i) || g i) (from n 0)
 all-rest f g k n h same =
@@ -103,34 +97,17 @@ module _ (f g : ℕ → Bool) (k n : ℕ) (h : k ≤ n) (same : (i : ℕ) → k 
   pub rest-end : {r : Bool} → true ≡ all f (from k 0) → r ≡ all (λ i. not (leb k i) || g i) (from n 0) → r ≡ all f (from n 0)
   rest-end e q = q ∙ sym (all-rest f g k n h same ∙ rw (← e) refl)
 
--- ---- how often
+-- ---- how often f holds from i on
 
-pub bit-le : (t : Bool) → cond t 1 0 ≤ 1
-bit-le true = omega arith
-bit-le false = omega arith
-
--- how often f: k were found below i, and x is what the code was told at i
 module _ (f : ℕ → Bool) (n i : ℕ) where
   keep-more : (t : Bool) (l : List ℕ) → length (cond t (i ∷ l) l) ≡ cond t 1 0 + length l
   keep-more true l = omega arith
   keep-more false l = omega arith
 
-  pub found-more : (k : ℕ) {x : ℕ} → i < n → x ≡ cond (f i) 1 0 → length (keep f (from n 0)) ≡ k + length (keep f (from (n - i) i))
-      → length (keep f (from n 0)) ≡ k + x + length (keep f (from (n - (i + 1)) (i + 1)))
+  pub found-next : i < n → length (keep f (from (n - i) i)) ≡ cond (f i) 1 0 + length (keep f (from (n - (i + 1)) (i + 1)))
   unfolding keep
-  found-more k h e v =
-      let q : length (keep f (from (n - i) i)) ≡ cond (f i) 1 0 + length (keep f (from (n - (i + 1)) (i + 1))) = ap (λ (l : List ℕ). length (keep f l)) (from-next n i h) ∙ keep-more (f i) (keep f (from (n - (i + 1)) (i + 1))) in
-      omega arith
+  found-next h = ap (λ (l : List ℕ). length (keep f l)) (from-next n i h) ∙ keep-more (f i) (keep f (from (n - (i + 1)) (i + 1)))
 
-  pub found-start : i ≡ 0 → length (keep f (from n 0)) ≡ 0 + length (keep f (from (n - i) i))
-  found-start e = ap (λ (l : List ℕ). length (keep f l)) (from-start n) ∙ ap (λ (j : ℕ). length (keep f (from (n - j) j))) (sym e) ∙ omega arith
-
-  pub found-count : (k : ℕ) → n ≤ i → length (keep f (from n 0)) ≡ k + length (keep f (from (n - i) i)) → k ≡ length (keep f (from n 0))
+  pub found-end : n ≤ i → length (keep f (from (n - i) i)) ≡ 0
   unfolding keep
-  found-count k h v =
-      let z : length (keep f (from (n - i) i)) ≡ 0 = ap (λ (l : List ℕ). length (keep f l)) (from-end n i h) in
-      omega arith
-
-  pub found-all : (k : ℕ) → n ≤ i → length (keep f (from n 0)) ≡ k + length (keep f (from (n - i) i)) → eqb k 1 ≡ once f (from n 0)
-  unfolding once
-  found-all k h v = ap (λ (j : ℕ). eqb j 1) (found-count k h v)
+  found-end h = ap (λ (l : List ℕ). length (keep f l)) (from-end n i h)

@@ -56,6 +56,11 @@ pub and-snd : (x y : Bool) → x && y ≡ true → y ≡ true
 and-snd true y e = e
 and-snd false y e = absurd (false≢true e)
 
+-- a test that can not hold
+pub fails : (x : Bool) → (x ≡ true → ⊥) → x ≡ false
+fails true h = absurd (h refl)
+fails false h = refl
+
 -- two tests that hold together
 pub same-test : (x y : Bool) → (x ≡ true → y ≡ true) → (y ≡ true → x ≡ true) → x ≡ y
 same-test true y f g = sym (f refl)

@@ -1,5 +1,6 @@
 -- `forms::partitions::forms_test` meets its contract. Assumes nothing.
 use mathlib.Core.Path.{ap, _∙_}
+use mathlib.Core.Bool.{Bool, _&&_}
 use Prim.Native.Nat.{ℕ}
 use borrow.Author.Needs.{needs}
 use Rattle.walk.specs.Finite.{from, all, once}
@@ -36,31 +37,15 @@ indices-test-requires c κs =
 
 returns-3 : tie.Need-returns-3
 returns-3 c =
-    let s = c .before .before .before .before .before .before .before .before .args in
-    let descriptor-test = c .before .before .before .before .before .before .descriptor-test in
-    let first = c .before .before .before .before .before .if1 in
-    let look-up = c .before .before .before .before .look-up in
+    let s = c .before .before .before .before .before .before .before .args in
     let b = s .b in
     let m = s .m .now in
-    rw (forms-as b m (s .d .0), yes (descriptor-test .ensures) (first .left), yes (c .before .before .before .list-test .ensures ∙ ap (listTest b m) (look-up .ensures .0)) (c .before .before .if2 .left), no (c .before .indices-test .ensures ∙ ap (λ (x : ℕ). all (indexTest b m x) (from (pageWords b) 0)) (look-up .ensures .0)) (c .if3 .taken))
-
-threes-once-requires : tie.Need-threes-once-requires
-threes-once-requires c κs =
-    let h = c .before .before .before .before .before .before .before .before .pre in (
-      h,
-      record { named = c .before .before .before .before .look-up .ensures .1; passed = yes (c .before .before .before .list-test .ensures) (c .before .before .if2 .left) },
-    )
-
-returns-4 : tie.Need-returns-4
-returns-4 c =
-    let s = c .before .before .before .before .before .before .before .before .before .args in
-    let descriptor-test = c .before .before .before .before .before .before .before .descriptor-test in
-    let first = c .before .before .before .before .before .before .if1 in
-    let look-up = c .before .before .before .before .before .look-up in
-    let b = s .b in
-    let m = s .m .now in
-    rw (forms-as b m (s .d .0), yes (descriptor-test .ensures) (first .left), yes (c .before .before .before .before .list-test .ensures ∙ ap (listTest b m) (look-up .ensures .0)) (c .before .before .before .if2 .left), yes (c .before .before .indices-test .ensures ∙ ap (λ (x : ℕ). all (indexTest b m x) (from (pageWords b) 0)) (look-up .ensures .0)) (c .before .if3 .left))
-    (c .threes-once .ensures ∙ ap (λ (x : ℕ). all (λ j. once (stands b m x j) (from (pageWords b) 0)) (from (threes b m x) 0)) (look-up .ensures .0))
+    let described = yes (c .before .before .before .before .before .descriptor-test .ensures) (c .before .before .before .before .if1 .left) in
+    let e = c .before .before .before .look-up .ensures .0 in
+    let listed = yes (c .before .before .list-test .ensures ∙ ap (listTest b m) e) (c .before .if2 .left) in
+    let each : ℕ → Bool = λ d. all (indexTest b m d) (from (pageWords b) 0) in
+    let single : ℕ → Bool = λ d. all (λ j. once (stands b m d j) (from (pageWords b) 0)) (from (threes b m d) 0) in
+    rw (forms-as b m (s .d .0), described, listed) (c .indices-test .ensures ∙ ap (λ (d : ℕ). each d && single d) e)
 
 pub forms-test-spec : {M : Type 1} → statement M
 forms-test-spec =
@@ -72,6 +57,4 @@ forms-test-spec =
     list-test-requires
     returns-2
     indices-test-requires
-    returns-3
-    threes-once-requires
-    returns-4)
+    returns-3)
