@@ -3,16 +3,17 @@ use mathlib.Core.Path.{_≡_, ap}
 use mathlib.Core.Logic.{_≢_}
 use mathlib.Core.Bool.{Bool, true, false, not, _||_}
 use mathlib.Core.List.{List}
-use Prim.Native.Nat.{ℕ, _+_, _*_, _%_, _^_, _≤_, _<_}
+use Prim.Native.Nat.{ℕ, _+_, _-_, _*_, _/_, _%_, _^_, _≤_, _<_}
 use native.Mathlib.Nat.{div-add-mod', mul-le-mul, mul-le-mul-right, suc-mul}
 use native.Mathlib.Numerals.{add-one}
 use native.Mathlib.Omega.{arith}
 use borrow.Author.Tests.{eq-eqb, ne-eqb, lt-ltb, le-ltb, eqb-true, ltb-false}
 use lib.Dec.{ltb}
 use lib.ListN.{length}
-use Rattle.memory.specs.Geometry.{pageWords, address, mostPages}
+use Rattle.memory.specs.Geometry.{pageWords, address, mostPages, threesFor}
 use Rattle.memory.specs.Words.{index}
-use Rattle.memory.proofs.Widths.{words-most}
+use Rattle.memory.proofs.Geometry.{threesFor-least}
+use Rattle.memory.proofs.Widths.{words-least, words-most}
 use Rattle.rules.specs.Conditions.{pagesIn, wrongSize}
 
 -- ---- "length isn't 64N with N 16 to 256"
@@ -52,6 +53,13 @@ near-address b k h l =
 
 pub near-product : (q w : ℕ) → q ≤ 1364 → w ≤ 1024 → q * w ≤ 1396736
 near-product q w h k = mul-le-mul h k
+
+-- the first root page lies in the memory
+pub first-inside : (b n : ℕ) → 6 ≤ b → 16 ≤ n → 6 + 3 * threesFor b n ≤ n
+first-inside b n h k =
+    let t = (n - 6) / 3 in
+    let l : 67 ≤ 2 ^ b + 3 = omega (arith, words-least b h) in
+    omega (arith, threesFor-least b n t (omega (arith, mul-le-mul-right t l)))
 
 -- a page's part lies in the memory, and has a page's words
 pub page-inside : (b p n : ℕ) → p < n → index b (p + 1) 0 ≤ n * pageWords b

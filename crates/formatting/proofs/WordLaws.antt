@@ -1,15 +1,24 @@
 -- The words that format leaves, by the tests that the code makes. Assumes nothing.
-use mathlib.Core.Path.{_≡_, ap, _∙_}
+use mathlib.Core.Path.{_≡_, refl, sym, ap, _∙_}
 use mathlib.Core.Logic.{_≢_}
-use mathlib.Core.List.{[], _∷_}
+use mathlib.Core.Bool.{Bool, true, false, cond, _&&_}
+use mathlib.Core.List.{List, [], _∷_}
 use Prim.Native.Nat.{ℕ, _+_, _-_, _*_, _/_, _%_, _≤_, _<_}
 use native.Mathlib.Omega.{arith}
 use borrow.Author.Tests.{eq-eqb, ne-eqb, lt-ltb, le-ltb, le-leb, lt-leb}
-use lib.ListN.{getD}
+use lib.ListN.{getD, List·getD-eq-default}
 use Rattle.memory.specs.Geometry.{editionOf, pageWords, address, pageOf, threesFor, flatPages}
 use Rattle.memory.specs.Entry.{entry}
 use Rattle.memory.specs.Format.{headerWord, rootDescriptorWord, rootDirectoryWord, rootListWord, rootTableWord, formatWord}
 use Rattle.memory.proofs.Geometry.{page-address}
+
+neither : (t : Bool) → (t && false) ≡ false
+neither true = refl
+neither false = refl
+
+either : (t : Bool) → _≡_ {A = ℕ} (cond t 0 0) 0
+either true = refl
+either false = refl
 
 pub descriptor-is : (b i d t s₁ s₂ l : ℕ) → d ≡ address b 1 → t ≡ address b 2 → s₁ ≡ address b 3 → s₂ ≡ address b 4 → l ≡ address b 5
     → getD (0 ∷ d ∷ 0 ∷ t ∷ 0 ∷ s₁ ∷ 0 ∷ s₂ ∷ 0 ∷ l ∷ 0 ∷ 0 ∷ []) i 0 ≡ rootDescriptorWord b i
@@ -69,7 +78,13 @@ module _ (b n t : ℕ) (e : t ≡ threesFor b n) where
     pub word-flat : 5 < p → 6 + 3 * t ≤ p → 0 ≡ formatWord b n p i
     unfolding formatWord
     word-flat h k =
-        simp (ne-eqb p 0 (omega arith), ne-eqb p 1 (omega arith), le-ltb p 5 (omega arith), ne-eqb p 5 (omega arith), le-ltb p (6 + 3 * threesFor b n) (omega arith))
+        simp (
+          ne-eqb p 0 (omega arith),
+          ne-eqb p 1 (omega arith),
+          le-ltb p 5 (omega arith),
+          ne-eqb p 5 (omega arith),
+          le-ltb p (6 + 3 * threesFor b n) (omega arith),
+        )
 
     pub word-shadow : 5 < p → p < 6 + 3 * t → p % 3 ≢ 0 → 0 ≡ formatWord b n p i
     unfolding formatWord
@@ -94,3 +109,33 @@ module _ (b n t : ℕ) (e : t ≡ threesFor b n) where
           lt-ltb p (6 + 3 * threesFor b n) (omega arith),
           eq-eqb (p % 3) 0 l,
         )
+
+    -- the words that are 0 whatever stands before them
+
+    pub after-header : p ≡ 0 → 6 ≤ i → formatWord b n p i ≡ 0
+    after-header h k =
+        let ws : List ℕ = n ∷ threesFor b n ∷ address b 1 ∷ address b (6 + 3 * threesFor b n) ∷ address b 1 ∷ editionOf b ∷ [] in
+        sym (word-header h) ∙ List·getD-eq-default ws 0 k
+
+    pub after-descriptor : p ≡ 1 → 12 ≤ i → formatWord b n p i ≡ 0
+    after-descriptor h k =
+        let ws : List ℕ = 0 ∷ address b 1 ∷ 0 ∷ address b 2 ∷ 0 ∷ address b 3 ∷ 0 ∷ address b 4 ∷ 0 ∷ address b 5 ∷ 0 ∷ 0 ∷ [] in
+        sym (word-descriptor h) ∙ List·getD-eq-default ws 0 k
+
+    pub after-directory : p ≢ 0 → p ≢ 1 → p < 5 → t ≤ i → formatWord b n p i ≡ 0
+    after-directory h k l u = sym (word-directory h k l) ∙ sym (directory-out (p - 2) i u)
+
+    pub after-list : p ≡ 5 → 1 + 6 * t ≤ i → formatWord b n p i ≡ 0
+    after-list h k = sym (word-list h) ∙ simp (ne-eqb i 0 (omega arith), lt-leb i (6 * threesFor b n) (omega arith), neither)
+
+    pub all-shadow : 5 < p → p % 3 ≢ 0 → formatWord b n p i ≡ 0
+    unfolding formatWord
+    all-shadow h l =
+        simp (ne-eqb p 0 (omega arith), ne-eqb p 1 (omega arith), le-ltb p 5 (omega arith), ne-eqb p 5 (omega arith), ne-eqb (p % 3) 0 l, neither)
+
+    pub after-table : 5 < p → 0 < n → n ≤ i → formatWord b n p i ≡ 0
+    unfolding formatWord
+    after-table h l u =
+        let v = (p - 6) / 3 * pageWords b + i in
+        let k : rootTableWord b n v ≡ 0 = sym (table-after v (omega arith) (omega arith)) in
+        simp (ne-eqb p 0 (omega arith), ne-eqb p 1 (omega arith), le-ltb p 5 (omega arith), ne-eqb p 5 (omega arith), k, either)

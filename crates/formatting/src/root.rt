@@ -4,7 +4,7 @@ use pages::PhysicalPage;
 use pages::VirtualPage;
 use pages::flat_page;
 ghost use mathlib.Core.Path.{_≡_};
-ghost use Prim.Native.Nat.{_+_, _*_, _<_, _≤_};
+ghost use Prim.Native.Nat.{ℕ, _+_, _*_, _<_, _≤_};
 ghost use Rattle.memory.specs.Geometry.{threesFor, pageWords};
 ghost use Rattle.memory.specs.Format.{headerWord, rootDescriptorWord, rootDirectoryWord, rootListWord, rootTableWord, formatWord};
 ghost use Rattle.pages.specs.Width.{Width};
@@ -109,4 +109,28 @@ pub fn format_word(b: u32, n: u32, t: u32, page: PhysicalPage, i: u32) -> u32
         return 0;
     }
     table_word(b, n, t, VirtualPage((p - 6) / 3 * pages::page_words(b) + i))
+}
+
+// How many words of a page may be other than 0: all behind them are 0.
+pub fn words_used(n: u32, t: u32, page: PhysicalPage) -> u32
+    requires { ⌜ (16 ≤ n) × (t ≤ 6144) ⌝ }
+    ensures { λ r. ⌜ ((b i : ℕ) → t ≡ threesFor b n → r ≤ i → formatWord b n (page .0) i ≡ 0) ⌝ }
+{
+    let p = page.0;
+    if p == 0 {
+        return 6;
+    }
+    if p == 1 {
+        return 12;
+    }
+    if p < 5 {
+        return t;
+    }
+    if p == 5 {
+        return 1 + 6 * t;
+    }
+    if p % 3 != 0 {
+        return 0;
+    }
+    n
 }
