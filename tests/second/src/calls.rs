@@ -11,15 +11,8 @@ pub type Answer = Result<u32, u32>;
 /// How many arguments each call has, by its number from 1.
 pub const ARGUMENTS: [usize; 12] = [5, 1, 4, 2, 2, 3, 2, 1, 1, 0, 1, 2];
 
-/// Performs a call by its number, 0 for format, as of the memory's edition; none when the number or the argument count is wrong.
+/// Performs a call by its number, 0 for format, whose argument is the edition; none when the number or the argument count is wrong.
 pub fn call(mem: &mut [u32], number: u32, arguments: &[u32]) -> Option<Answer> {
-    read_as(mem);
-    let answer = numbered(mem, number, arguments);
-    read_as(mem);
-    answer
-}
-
-fn numbered(mem: &mut [u32], number: u32, arguments: &[u32]) -> Option<Answer> {
     Some(match (number, arguments) {
         (0, &[edition]) => format(mem, edition),
         (1, &[a, b, c, d, e]) => create_partition(mem, [a, b, c, d, e]),
@@ -50,13 +43,15 @@ fn caller_of(mem: &[u32]) -> Result<Partition, u32> {
     Ok(Partition::current(mem))
 }
 
-fn good_address(address: u32, multiple: u32) -> bool {
-    (u64::from(page_bytes())..virtual_end()).contains(&address.into()) && address.is_multiple_of(multiple)
+fn good_address(edition: Edition, address: u32, multiple: u32) -> bool {
+    let good = u64::from(edition.page_bytes())..edition.virtual_end();
+    good.contains(&address.into()) && address.is_multiple_of(multiple)
 }
 
-fn page_addresses<const K: usize>(addresses: [u32; K]) -> Result<[VPage; K], u32> {
-    require(addresses.iter().all(|&a| good_address(a, page_bytes())), ADDRESS)?;
-    Ok(addresses.map(VPage::of))
+fn page_addresses<const K: usize>(mem: &[u32], addresses: [u32; K]) -> Result<[VPage; K], u32> {
+    let edition = Edition::of(mem);
+    require(addresses.iter().all(|&a| good_address(edition, a, edition.page_bytes())), ADDRESS)?;
+    Ok(addresses.map(|address| VPage::of(edition, address)))
 }
 
 /// The child whose descriptor the caller has at this address.
@@ -82,7 +77,7 @@ fn depth_of(mem: &[u32], partition: &Partition) -> usize {
 
 fn parent_of(mem: &[u32], descriptor: PPage) -> Option<PPage> {
     let address = word(mem, descriptor, PARENT);
-    (address != 0).then_some(PPage::of(address))
+    (address != 0).then_some(PPage::of(Edition::of(mem), address))
 }
 
 // Effects that several calls share.
@@ -90,14 +85,14 @@ fn parent_of(mem: &[u32], descriptor: PPage) -> Option<PPage> {
 /// Wipes the page and sets or clears its accessible bit in the caller and each ancestor, following
 /// shadow 2: to "take" it clears the bit, to "return" it sets it.
 fn wipe(mem: &mut [u32], caller: &Partition, at: VPage, accessible: bool) {
-    let (mut own, mut v) = (*caller, at);
+    let (mut own, mut v, edition) = (*caller, at, Edition::of(mem));
     for _ in 0..=MOST_DEPTH {
         if let Some(mapping) = own.mapping(mem, v) {
             page_mut(mem, mapping.page).fill(0);
-            set_table_word(mem, own.directory, v, Mapping { accessible, ..mapping }.encode());
+            set_table_word(mem, own.directory, v, Mapping { accessible, ..mapping }.encode(edition));
         }
         let Some(parent) = parent_of(mem, own.descriptor) else { break };
-        v = VPage::of(own.shadow2(mem, v));
+        v = VPage::of(edition, own.shadow2(mem, v));
         own = Partition::at(mem, parent);
     }
 }
@@ -112,35 +107,41 @@ fn give_back(mem: &mut [u32], caller: &Partition, at: VPage) {
 
 // Format and the calls, by number.
 
-/// Words are read as of the edition afterwards.
-pub fn format(mem: &mut [u32], edition: u32) -> Answer {
-    choose(edition).ok_or(SIZE)?;
-    let sizes = Sizes::of_length(mem.len()).ok_or(SIZE)?;
+/// The choice is an edition's number.
+pub fn format(mem: &mut [u32], choice: u32) -> Answer {
+    let edition = Edition::numbered(choice).ok_or(SIZE)?;
+    let sizes = Sizes::of_length(edition, mem.len()).ok_or(SIZE)?;
     mem.fill(0);
-    let header =
-        [sizes.pages, sizes.threes, ROOT_PAGE.address(), sizes.first_flat().address(), ROOT_PAGE.address(), edition];
-    page_mut(mem, HEADER)[..6].copy_from_slice(&header);
+    fill_formatted(mem, sizes);
+    Ok(0)
+}
+
+/// Fills words that are all 0: the header first, as it says how the others are read. They may end before the flat pages.
+pub fn fill_formatted(mem: &mut [u32], sizes: Sizes) {
+    let edition = sizes.edition;
+    let root = ROOT_PAGE.address(edition);
+    let header = [sizes.pages, sizes.threes, root, sizes.first_flat().address(edition), root, edition.number];
+    mem[..header.len()].copy_from_slice(&header);
     for pair in 0..5 {
-        set_word(mem, ROOT_PAGE, 2 * pair + 1, PPage(1 + pair as u32).address());
+        set_word(mem, ROOT_PAGE, 2 * pair + 1, PPage(1 + pair as u32).address(edition));
     }
     let root = Partition::at(mem, ROOT_PAGE);
     set_word(mem, root.list, 0, 1 + 6 * sizes.threes);
     for k in 0..3 * sizes.threes {
         let page = PPage(FIRST_THREE + k);
-        set_word(mem, root.roots()[k as usize % 3], k as usize / 3, page.address() + PRESENT);
-        set_word(mem, root.list, 2 + 2 * k as usize, page.address());
+        set_word(mem, root.roots()[k as usize % 3], k as usize / 3, page.address(edition) + PRESENT);
+        set_word(mem, root.list, 2 + 2 * k as usize, page.address(edition));
     }
     for v in 1..=sizes.free {
         let page = PPage(sizes.first_flat().0 + v - 1);
         let mapping = Mapping { page, accessible: true, rights: ALL_RIGHTS };
-        set_table_word(mem, root.directory, VPage(v), mapping.encode());
+        set_table_word(mem, root.directory, VPage(v), mapping.encode(edition));
     }
-    Ok(0)
 }
 
 pub fn create_partition(mem: &mut [u32], five: [u32; 5]) -> Answer {
     let caller = caller_of(mem)?;
-    let group = page_addresses(five)?;
+    let group = page_addresses(mem, five)?;
     require((0..5).all(|i| !group[..i].contains(&group[i])), TWICE)?;
     let mut mappings = Vec::new();
     for v in group {
@@ -158,22 +159,22 @@ pub fn found(mem: &mut [u32], caller: &Partition, group: [VPage; 5]) {
     for v in group {
         take(mem, caller, v);
     }
-    let (descriptor, list) = (pages[0], pages[4]);
+    let (descriptor, list, edition) = (pages[0], pages[4], Edition::of(mem));
     for (k, (v, page)) in group.iter().zip(pages).enumerate() {
-        set_word(mem, descriptor, 2 * k, v.address());
-        set_word(mem, descriptor, 2 * k + 1, page.address());
+        set_word(mem, descriptor, 2 * k, v.address(edition));
+        set_word(mem, descriptor, 2 * k + 1, page.address(edition));
     }
-    set_word(mem, descriptor, PARENT, caller.descriptor.address());
+    set_word(mem, descriptor, PARENT, caller.descriptor.address(edition));
     set_word(mem, list, 0, 1);
     set_table_word(mem, caller.shadow1, group[0], IS_CHILD);
 }
 
 pub fn delete_partition(mem: &mut [u32], child: u32) -> Answer {
     let caller = caller_of(mem)?;
-    let [at] = page_addresses([child])?;
+    let [at] = page_addresses(mem, [child])?;
     // All that is read of the child is read before its pages are wiped.
     let kernel = child_at(mem, &caller, at)?.kernel_pairs(mem);
-    let lent: Vec<_> = caller.mappings(mem).filter(|&(v, _)| caller.shadow1(mem, v) == at.address()).collect();
+    let lent: Vec<_> = caller.mappings(mem).filter(|&(v, _)| caller.shadow1(mem, v) == child).collect();
     set_table_word(mem, caller.shadow1, at, 0);
     for &(v, mapping) in &lent {
         set_table_word(mem, caller.shadow1, v, 0);
@@ -189,38 +190,40 @@ pub fn delete_partition(mem: &mut [u32], child: u32) -> Answer {
 
 pub fn add_vaddr(mem: &mut [u32], page: u32, child: u32, target: u32, rights: u32) -> Answer {
     let caller = caller_of(mem)?;
-    let [page, at, target] = page_addresses([page, child, target])?;
+    let [page, at, target] = page_addresses(mem, [page, child, target])?;
     require(rights <= ALL_RIGHTS, RIGHTS)?;
     let child = child_at(mem, &caller, at)?;
     let own = mapping_in_hand(mem, &caller, page)?;
     require(holds(own, rights), RIGHTS)?;
-    require(child.has_three(mem, target.directory_index()), TABLE)?;
+    let edition = Edition::of(mem);
+    require(child.has_three(mem, target.directory_index(edition)), TABLE)?;
     require(child.mapping(mem, target).is_none(), TAKEN)?;
-    set_table_word(mem, child.directory, target, Mapping { rights, ..own }.encode());
-    set_table_word(mem, child.shadow2, target, page.address());
-    set_table_word(mem, caller.shadow1, page, at.address());
+    set_table_word(mem, child.directory, target, Mapping { rights, ..own }.encode(edition));
+    set_table_word(mem, child.shadow2, target, page.address(edition));
+    set_table_word(mem, caller.shadow1, page, at.address(edition));
     Ok(0)
 }
 
 pub fn remove_vaddr(mem: &mut [u32], child: u32, target: u32) -> Answer {
     let caller = caller_of(mem)?;
-    let [at, target] = page_addresses([child, target])?;
+    let [at, target] = page_addresses(mem, [child, target])?;
     let child = child_at(mem, &caller, at)?;
-    require(child.has_three(mem, target.directory_index()), TABLE)?;
+    let edition = Edition::of(mem);
+    require(child.has_three(mem, target.directory_index(edition)), TABLE)?;
     require(child.mapping(mem, target).is_some(), UNMAPPED)?;
     require(child.in_hand(mem, target), HAND)?;
     let lender = child.shadow2(mem, target);
     set_table_word(mem, child.directory, target, 0);
     set_table_word(mem, child.shadow2, target, 0);
-    set_table_word(mem, caller.shadow1, VPage::of(lender), 0);
+    set_table_word(mem, caller.shadow1, VPage::of(edition, lender), 0);
     Ok(lender)
 }
 
 pub fn page_count(mem: &[u32], child: u32, target: u32) -> Answer {
     let caller = caller_of(mem)?;
-    let [at, target] = page_addresses([child, target])?;
+    let [at, target] = page_addresses(mem, [child, target])?;
     let child = child_at(mem, &caller, at)?;
-    if child.has_three(mem, target.directory_index()) {
+    if child.has_three(mem, target.directory_index(Edition::of(mem))) {
         return Ok(0);
     }
     require(child.three_count(mem) < MOST_THREES, LIST)?;
@@ -229,19 +232,20 @@ pub fn page_count(mem: &[u32], child: u32, target: u32) -> Answer {
 
 pub fn prepare(mem: &mut [u32], child: u32, target: u32, first: u32) -> Answer {
     let caller = caller_of(mem)?;
-    let [at, target, first] = page_addresses([child, target, first])?;
+    let [at, target, _] = page_addresses(mem, [child, target, first])?;
     let child = child_at(mem, &caller, at)?;
-    let index = target.directory_index();
+    let edition = Edition::of(mem);
+    let index = target.directory_index(edition);
     require(!child.has_three(mem, index), TAKEN)?;
     require(child.three_count(mem) < MOST_THREES, LIST)?;
     let mut chain = Vec::new();
-    follow_chain(mem, &caller, first.address(), &mut chain)?;
+    follow_chain(mem, &caller, first, &mut chain)?;
     let used = word(mem, child.list, 0) as usize;
     for (kind, (v, page)) in chain.into_iter().enumerate() {
         take(mem, &caller, v);
-        set_word(mem, child.roots()[kind], index, page.address() + PRESENT);
-        set_word(mem, child.list, used + 2 * kind, v.address());
-        set_word(mem, child.list, used + 2 * kind + 1, page.address());
+        set_word(mem, child.roots()[kind], index, page.address(edition) + PRESENT);
+        set_word(mem, child.list, used + 2 * kind, v.address(edition));
+        set_word(mem, child.list, used + 2 * kind + 1, page.address(edition));
     }
     set_word(mem, child.list, 0, used as u32 + 6);
     Ok(0)
@@ -249,11 +253,11 @@ pub fn prepare(mem: &mut [u32], child: u32, target: u32, first: u32) -> Answer {
 
 /// Collects the three chained pages. A page's own link is read only after the page itself has passed.
 pub fn follow_chain(mem: &[u32], caller: &Partition, first: u32, chain: &mut Vec<(VPage, PPage)>) -> Result<(), u32> {
-    let mut link = first;
+    let (mut link, edition) = (first, Edition::of(mem));
     for _ in 0..3 {
-        let v = VPage::of(link);
+        let v = VPage::of(edition, link);
         let fresh = chain.iter().all(|earlier| earlier.0 != v);
-        require(good_address(link, page_bytes()) && fresh, CHAIN)?;
+        require(good_address(edition, link, edition.page_bytes()) && fresh, CHAIN)?;
         let mapping = mapping_in_hand(mem, caller, v)?;
         require(holds(mapping, READ + WRITE), RIGHTS)?;
         link = word(mem, mapping.page, 0);
@@ -264,13 +268,14 @@ pub fn follow_chain(mem: &[u32], caller: &Partition, first: u32, chain: &mut Vec
 
 pub fn collect(mem: &mut [u32], child: u32, target: u32) -> Answer {
     let caller = caller_of(mem)?;
-    let [at, target] = page_addresses([child, target])?;
+    let [at, target] = page_addresses(mem, [child, target])?;
     let child = child_at(mem, &caller, at)?;
-    let index = target.directory_index();
+    let edition = Edition::of(mem);
+    let index = target.directory_index(edition);
     require(child.has_three(mem, index), TABLE)?;
-    let empty = (0..page_words()).all(|j| child.mapping(mem, VPage::at(index, j)).is_none());
+    let empty = (0..edition.page_words()).all(|j| child.mapping(mem, VPage::at(edition, index, j)).is_none());
     require(empty, FULL_TABLE)?;
-    let table = PPage::of(word(mem, child.directory, index));
+    let table = named_page(mem, child.directory, index);
     let pairs = child.list_pairs(mem);
     let place = pairs.iter().step_by(3).position(|pair| pair.1 == table).ok_or(DAMAGED)?;
     let three = [0, 1, 2].map(|kind| pairs[3 * place + kind]);
@@ -286,14 +291,14 @@ pub fn collect(mem: &mut [u32], child: u32, target: u32) -> Answer {
     for (v, _) in three {
         give_back(mem, &caller, v);
     }
-    set_word(mem, three[0].1, 0, three[1].0.address());
-    set_word(mem, three[1].1, 0, three[2].0.address());
-    Ok(three[0].0.address())
+    set_word(mem, three[0].1, 0, three[1].0.address(edition));
+    set_word(mem, three[1].1, 0, three[2].0.address(edition));
+    Ok(three[0].0.address(edition))
 }
 
 pub fn mapped_in_child(mem: &[u32], page: u32) -> Answer {
     let caller = caller_of(mem)?;
-    let [page] = page_addresses([page])?;
+    let [page] = page_addresses(mem, [page])?;
     require(caller.mapping(mem, page).is_some(), UNMAPPED)?;
     match caller.shadow1(mem, page) {
         IS_CHILD => Ok(0),
@@ -303,27 +308,27 @@ pub fn mapped_in_child(mem: &[u32], page: u32) -> Answer {
 
 pub fn enter(mem: &mut [u32], child: u32) -> Answer {
     let caller = caller_of(mem)?;
-    let [at] = page_addresses([child])?;
+    let [at] = page_addresses(mem, [child])?;
     let descriptor = child_at(mem, &caller, at)?.descriptor;
-    set_word(mem, HEADER, CURRENT, descriptor.address());
+    set_word(mem, HEADER, CURRENT, descriptor.address(Edition::of(mem)));
     Ok(0)
 }
 
 pub fn leave(mem: &mut [u32]) -> Answer {
     let caller = caller_of(mem)?;
     let parent = parent_of(mem, caller.descriptor).ok_or(ROOT)?;
-    set_word(mem, HEADER, CURRENT, parent.address());
+    set_word(mem, HEADER, CURRENT, parent.address(Edition::of(mem)));
     Ok(0)
 }
 
 /// The walk of load and store: the page and the word's index in it.
 fn walk(mem: &[u32], address: u32, right: u32) -> Result<(PPage, usize), u32> {
-    let caller = caller_of(mem)?;
-    require(good_address(address, 4), ADDRESS)?;
-    let mapping = caller.mapping(mem, VPage::of(address)).ok_or(UNMAPPED)?;
+    let (caller, edition) = (caller_of(mem)?, Edition::of(mem));
+    require(good_address(edition, address, 4), ADDRESS)?;
+    let mapping = caller.mapping(mem, VPage::of(edition, address)).ok_or(UNMAPPED)?;
     require(mapping.accessible, KERNEL)?;
     require(holds(mapping, right), RIGHTS)?;
-    Ok((mapping.page, (address % page_bytes() / 4) as usize))
+    Ok((mapping.page, (address % edition.page_bytes() / 4) as usize))
 }
 
 pub fn load(mem: &[u32], address: u32) -> Answer {

@@ -1,6 +1,6 @@
 //! Small guided changes to a sound memory, for comparing judgements of soundness.
 
-use crate::geometry::{page_words, PPage, VPage};
+use crate::geometry::{Edition, PPage, VPage, EDITION};
 use crate::memory::*;
 use crate::random::Random;
 use crate::tree::{tree, Node};
@@ -28,26 +28,34 @@ pub fn damage(mem: &[u32], random: &mut Random) -> Changes {
 /// Changes of any number of words: also those that one word or two seldom make, so that each sentence is broken alone.
 pub fn wide_damage(mem: &[u32], random: &mut Random) -> Changes {
     let nodes = tree(mem);
-    let wider = match random.below(12) {
+    let wider = match random.below(13) {
         0 => second_use(mem, &nodes, random),
         1 => other_order(mem, &nodes, random),
         2 => open_descriptor(mem, &nodes, random),
         3 => other_parent(mem, &nodes, random),
         4 => Some(vec![(CURRENT, any_page(mem, random))]),
-        5 => Some((0..3 + random.below(3)).flat_map(|_| damage(mem, random)).collect()),
+        5 => Some(vec![(EDITION, other_edition(mem, random))]),
+        6 => Some((0..3 + random.below(3)).flat_map(|_| damage(mem, random)).collect()),
         _ => None,
     };
     wider.unwrap_or_else(|| damage(mem, random))
 }
 
 fn any_page(mem: &[u32], random: &mut Random) -> u32 {
-    PPage(random.below(mem.len() / page_words()) as u32).address()
+    let edition = Edition::of(mem);
+    PPage(random.below(mem.len() / edition.page_words()) as u32).address(edition)
+}
+
+/// A word for the header that names the other edition or none.
+fn other_edition(mem: &[u32], random: &mut Random) -> u32 {
+    let other = 1 - Edition::of(mem).number;
+    random.pick(&[other, other, 2, 3, 1 << 31, u32::MAX]).unwrap_or(other)
 }
 
 /// Names another page as a child's parent.
 fn other_parent(mem: &[u32], nodes: &[Node], random: &mut Random) -> Option<Changes> {
     let children: Vec<_> = nodes[1..].iter().map(|node| node.partition.descriptor).collect();
-    let index = random.pick(&children)?.0 as usize * page_words() + PARENT;
+    let index = start(mem, random.pick(&children)?) + PARENT;
     Some(vec![(index, any_page(mem, random))])
 }
 
@@ -60,13 +68,13 @@ fn open_descriptor(mem: &[u32], nodes: &[Node], random: &mut Random) -> Option<C
 
 /// Sets the accessible bit of the page in the partition at this place of the tree and in its ancestors.
 fn opened(mem: &[u32], nodes: &[Node], mut place: usize, mut v: VPage) -> Changes {
-    let mut changes = Vec::new();
+    let (mut changes, edition) = (Vec::new(), Edition::of(mem));
     loop {
         let Node { partition, parent, .. } = &nodes[place];
-        let table = PPage::of(word(mem, partition.directory, v.directory_index()));
-        let index = table.0 as usize * page_words() + v.table_index();
+        let table = named_page(mem, partition.directory, v.directory_index(edition));
+        let index = start(mem, table) + v.table_index(edition);
         changes.push((index, mem[index] | ACCESSIBLE));
-        v = VPage::of(partition.shadow2(mem, v));
+        v = VPage::of(edition, partition.shadow2(mem, v));
         let Some((above, _)) = *parent else { break changes };
         place = above;
     }
@@ -76,7 +84,7 @@ fn opened(mem: &[u32], nodes: &[Node], mut place: usize, mut v: VPage) -> Change
 fn other_order(mem: &[u32], nodes: &[Node], random: &mut Random) -> Option<Changes> {
     let listed: Vec<_> = nodes[1..].iter().map(|node| node.partition).filter(|p| p.three_count(mem) > 0).collect();
     let child = random.pick(&listed)?;
-    let three = child.list.0 as usize * page_words() + 1 + 6 * random.below(child.three_count(mem));
+    let three = start(mem, child.list) + 1 + 6 * random.below(child.three_count(mem));
     let (one, other) = random.pick(&[(three, three + 2), (three, three + 4), (three + 2, three + 4)])?;
     Some(vec![(one, mem[other]), (one + 1, mem[other + 1]), (other, mem[one]), (other + 1, mem[one + 1])])
 }
@@ -92,8 +100,9 @@ fn second_use(mem: &[u32], nodes: &[Node], random: &mut Random) -> Option<Change
     let (own, other) = random.pick(&[(1, 2), (2, 3), (3, 1), (1, 1), (2, 2), (3, 3), (4, 4)])?;
     let (dropped, page) = taker.partition.kernel_pairs(mem)[own];
     let (at, taken) = giver.partition.kernel_pairs(mem)[other];
-    let pair = taker.partition.descriptor.0 as usize * page_words() + 2 * own;
-    let mut changes = vec![(pair, at.address()), (pair + 1, taken.address())];
+    let pair = start(mem, taker.partition.descriptor) + 2 * own;
+    let edition = Edition::of(mem);
+    let mut changes = vec![(pair, at.address(edition)), (pair + 1, taken.address(edition))];
     if page != taken {
         changes.extend(opened(mem, nodes, place, dropped));
     }
@@ -102,31 +111,37 @@ fn second_use(mem: &[u32], nodes: &[Node], random: &mut Random) -> Option<Change
 
 /// A word's index, mostly in a kernel page and mostly not 0.
 fn place(mem: &[u32], kernel: &[PPage], random: &mut Random) -> usize {
-    let mut index = random.below(mem.len());
-    for _ in 0..if random.once_in(24) { 0 } else { 6 } {
-        let page = random.pick(kernel).unwrap_or(HEADER);
-        index = page.0 as usize * page_words() + random.below(page_words());
-        if mem[index] != 0 {
-            break;
-        }
+    if random.once_in(24) {
+        return random.below(mem.len());
     }
-    index
+    let page = start(mem, random.pick(kernel).unwrap_or(HEADER));
+    let words = Edition::of(mem).page_words();
+    let used: Vec<usize> = (page..page + words).filter(|&index| mem[index] != 0).collect();
+    let any = page + random.below(words);
+    if random.once_in(6) {
+        any
+    } else {
+        random.pick(&used).unwrap_or(any)
+    }
 }
 
 /// A near or likely value for the word.
 fn changed(mem: &[u32], kernel: &[PPage], index: usize, random: &mut Random) -> u32 {
-    let old = mem[index];
-    let address = PPage(random.below(mem.len() / page_words() + 1) as u32).address();
+    let (old, edition) = (mem[index], Edition::of(mem));
+    let address = PPage(random.below(mem.len() / edition.page_words() + 1) as u32).address(edition);
     match random.below(17) {
         0 => old ^ 1 << random.below(32),
         1 | 2 => old ^ 1 << (2 + random.below(3)),
-        3 => old ^ 1 << (8 + random.below(8)),
-        4 => old.wrapping_add_signed(random.pick(&[1, -1]).unwrap_or(1)),
-        5 | 6 => old.wrapping_add_signed(random.pick(&[256, -256]).unwrap_or(256)),
+        3 => old ^ 1 << (edition.place_bits() as usize + random.below(8)),
+        4 => random.pick(&[old.wrapping_add(1), old.wrapping_sub(1)]).unwrap_or(old),
+        5 | 6 => {
+            let size = edition.page_bytes();
+            random.pick(&[old.wrapping_add(size), old.wrapping_sub(size)]).unwrap_or(old)
+        }
         7 => 0,
         8 => 1,
         9 => address,
-        10 | 11 => address + (old & 255),
+        10 | 11 => address + old % edition.page_bytes(),
         12 | 13 => old ^ ACCESSIBLE,
         _ => mem[place(mem, kernel, random)],
     }

@@ -1,54 +1,23 @@
-//! Sizes and field widths of the edition at hand, and the two kinds of page number.
+//! The editions with their sizes and field widths, and the two kinds of page number.
 
-use std::cell::Cell;
-
-/// The index width of each edition; every other width follows.
-const WIDTHS: [u32; 2] = [6, 10];
-/// Header word that holds the edition.
+/// Header word that holds the edition's number.
 pub const EDITION: usize = 5;
 
-thread_local! {
-    /// The edition by which words are read: that of the memory at hand.
-    static AT_HAND: Cell<usize> = const { Cell::new(0) };
+/// An edition: by the width of a directory or table index every other width follows.
+#[derive(Clone, Copy, PartialEq, Eq, Debug)]
+pub struct Edition {
+    pub number: u32,
+    index_bits: u32,
 }
 
-pub fn edition() -> u32 {
-    AT_HAND.get() as u32
-}
+/// Pages of 256 bytes.
+pub const SMALL: Edition = Edition { number: 0, index_bits: 6 };
+/// Pages of 4,096 bytes.
+pub const LARGE: Edition = Edition { number: 1, index_bits: 10 };
+/// By number.
+pub const EDITIONS: [Edition; 2] = [SMALL, LARGE];
 
-/// Reads words as of this edition from now on; none where there is no such edition.
-pub fn choose(edition: u32) -> Option<()> {
-    ((edition as usize) < WIDTHS.len()).then(|| AT_HAND.set(edition as usize))
-}
-
-/// Reads words as of the edition in this memory's header; with another word there, as of the old one.
-pub fn read_as(mem: &[u32]) {
-    AT_HAND.set(usize::from(mem.get(EDITION) == Some(&1)));
-}
-
-pub fn index_bits() -> u32 {
-    WIDTHS[AT_HAND.get()]
-}
-pub fn place_bits() -> u32 {
-    index_bits() + 2
-}
-pub fn page_words() -> usize {
-    1 << index_bits()
-}
-pub fn page_bytes() -> u32 {
-    1 << place_bits()
-}
-/// First number that is no virtual address.
-pub fn virtual_end() -> u64 {
-    1 << (place_bits() + 2 * index_bits())
-}
 pub const LEAST_PAGES: usize = 16;
-/// Of the old edition.
-pub const PAGE_WORDS: usize = 64;
-pub const MOST_PAGES: usize = 256;
-pub fn most_pages() -> usize {
-    4 << index_bits()
-}
 pub const MOST_THREES: usize = 10;
 pub const MOST_DEPTH: usize = 8;
 /// The root's five pages follow the header; its threes follow them.
@@ -57,6 +26,49 @@ pub const FIRST_THREE: u32 = 6;
 pub const READ: u32 = 1;
 pub const WRITE: u32 = 2;
 pub const ALL_RIGHTS: u32 = 7;
+
+impl Edition {
+    pub fn numbered(number: u32) -> Option<Edition> {
+        EDITIONS.get(number as usize).copied()
+    }
+
+    /// The edition that a memory's header names; none for any other word, or where there is none.
+    pub fn named(mem: &[u32]) -> Option<Edition> {
+        Edition::numbered(*mem.get(EDITION)?)
+    }
+
+    /// As of which edition the words of a memory are read. Memory that names none is not sound: any will do for it.
+    pub fn of(mem: &[u32]) -> Edition {
+        Edition::named(mem).unwrap_or(SMALL)
+    }
+
+    pub fn place_bits(self) -> u32 {
+        self.index_bits + 2
+    }
+
+    /// Words of a page, and entries of a directory or table.
+    pub fn page_words(self) -> usize {
+        1 << self.index_bits
+    }
+
+    pub fn page_bytes(self) -> u32 {
+        1 << self.place_bits()
+    }
+
+    /// How many virtual pages there are, page 0 with them.
+    pub fn virtual_pages(self) -> u32 {
+        1 << (2 * self.index_bits)
+    }
+
+    /// First number that is no virtual address.
+    pub fn virtual_end(self) -> u64 {
+        u64::from(self.virtual_pages()) << self.place_bits()
+    }
+
+    pub fn most_pages(self) -> usize {
+        4 << self.index_bits
+    }
+}
 
 /// A virtual page number.
 #[derive(Clone, Copy, PartialEq, Eq, PartialOrd, Ord, Debug)]
@@ -67,54 +79,61 @@ pub struct VPage(pub u32);
 pub struct PPage(pub u32);
 
 impl VPage {
-    pub fn of(address: u32) -> VPage {
-        VPage(address >> place_bits())
+    pub fn of(edition: Edition, address: u32) -> VPage {
+        VPage(address >> edition.place_bits())
     }
-    pub fn address(self) -> u32 {
-        self.0 << place_bits()
+    pub fn address(self, edition: Edition) -> u32 {
+        self.0 << edition.place_bits()
     }
-    pub fn at(directory: usize, table: usize) -> VPage {
-        VPage((directory << index_bits() | table) as u32)
+    pub fn at(edition: Edition, directory: usize, table: usize) -> VPage {
+        VPage((directory << edition.index_bits | table) as u32)
     }
-    pub fn directory_index(self) -> usize {
-        (self.0 >> index_bits()) as usize
+    pub fn directory_index(self, edition: Edition) -> usize {
+        (self.0 >> edition.index_bits) as usize
     }
-    pub fn table_index(self) -> usize {
-        (self.0 & ((1 << index_bits()) - 1)) as usize
+    pub fn table_index(self, edition: Edition) -> usize {
+        self.0 as usize % edition.page_words()
     }
 }
 
 impl PPage {
-    pub fn of(address: u32) -> PPage {
-        PPage(address >> place_bits())
+    pub fn of(edition: Edition, address: u32) -> PPage {
+        PPage(address >> edition.place_bits())
     }
-    pub fn address(self) -> u32 {
-        self.0 << place_bits()
+    pub fn address(self, edition: Edition) -> u32 {
+        self.0 << edition.place_bits()
     }
 }
 
 /// N, T and F of a memory.
 #[derive(Clone, Copy, PartialEq, Eq, Debug)]
 pub struct Sizes {
+    pub edition: Edition,
     pub pages: u32,
     pub threes: u32,
     pub free: u32,
 }
 
 impl Sizes {
-    /// None when the page count is out of bounds.
-    pub fn of_pages(pages: usize) -> Option<Sizes> {
-        if !(LEAST_PAGES..=most_pages()).contains(&pages) {
+    /// None when the page count is out of the edition's bounds.
+    pub fn of_pages(edition: Edition, pages: usize) -> Option<Sizes> {
+        if !(LEAST_PAGES..=edition.most_pages()).contains(&pages) {
             return None;
         }
         let pages = pages as u32;
-        let threes = (pages - 5).div_ceil(page_words() as u32 + 3);
-        Some(Sizes { pages, threes, free: pages - FIRST_THREE - 3 * threes })
+        let threes = (pages - 5).div_ceil(edition.page_words() as u32 + 3);
+        Some(Sizes { edition, pages, threes, free: pages - FIRST_THREE - 3 * threes })
     }
 
     /// None when the length in words is not that of whole pages, or of too few or too many.
-    pub fn of_length(words: usize) -> Option<Sizes> {
-        words.is_multiple_of(page_words()).then(|| Sizes::of_pages(words / page_words()))?
+    pub fn of_length(edition: Edition, words: usize) -> Option<Sizes> {
+        let whole = words.is_multiple_of(edition.page_words());
+        whole.then(|| Sizes::of_pages(edition, words / edition.page_words()))?
+    }
+
+    /// Those of a memory by its header's edition and its length.
+    pub fn of(mem: &[u32]) -> Option<Sizes> {
+        Sizes::of_length(Edition::named(mem)?, mem.len())
     }
 
     /// The first page handed to the root.

@@ -14,17 +14,11 @@ struct Maker<'a, Show: FnMut(&[u32], Answer, &[u32])> {
     show: Show,
 }
 
-/// So many calls for a memory of so many pages; each line is a call number and its arguments.
-pub fn make(seed: u32, count: usize, pages: usize) -> Vec<Vec<u32>> {
-    make_for(0, seed, count, pages)
-}
-
-/// The same for pages of an edition.
-pub fn make_for(edition: u32, seed: u32, count: usize, pages: usize) -> Vec<Vec<u32>> {
-    let _ = choose(edition);
-    let (mut mem, mut lines) = (vec![0; pages * page_words()], Vec::new());
+/// So many calls for a memory of so many pages of the edition; each line is a call number and its arguments.
+pub fn make(edition: Edition, seed: u32, count: usize, pages: usize) -> Vec<Vec<u32>> {
+    let (mut mem, mut lines) = (vec![0; pages * edition.page_words()], Vec::new());
     // A bad page count is refused here; the calls are made all the same.
-    let _ = format(&mut mem, edition);
+    let _ = format(&mut mem, edition.number);
     guide(&mut mem, &mut Random::new(seed), count, |line, _, _| lines.push(line.to_vec()));
     lines
 }
@@ -41,7 +35,7 @@ pub fn guide(mem: &mut [u32], random: &mut Random, count: usize, show: impl FnMu
             13 | 14 => maker.tear(),
             15 => maker.climb(3),
             16 | 17 => maker.descend(3),
-            _ if maker.random.once_in(8) => drop(maker.say(&[0, edition()])),
+            _ if maker.random.once_in(8) => drop(maker.say(&[0, maker.edition().number])),
             _ => maker.clear_root(),
         }
     }
@@ -60,11 +54,25 @@ impl<Show: FnMut(&[u32], Answer, &[u32])> Maker<'_, Show> {
         answer.ok()
     }
 
+    fn edition(&self) -> Edition {
+        Edition::of(self.mem)
+    }
+
+    /// The virtual page at an address.
+    fn page(&self, address: u32) -> VPage {
+        VPage::of(self.edition(), address)
+    }
+
+    /// The address of a virtual page, by its two table indices.
+    fn address(&self, directory: usize, table: usize) -> u32 {
+        VPage::at(self.edition(), directory, table).address(self.edition())
+    }
+
     // What the memory holds, as addresses in the caller or in one of its children.
 
     fn mapped(&self, keep: impl Fn(&Partition, VPage, Mapping) -> bool) -> Vec<u32> {
-        let here = Partition::current(self.mem);
-        here.mappings(self.mem).filter(|&(v, m)| keep(&here, v, m)).map(|(v, _)| v.address()).collect()
+        let (here, edition) = (Partition::current(self.mem), self.edition());
+        here.mappings(self.mem).filter(|&(v, m)| keep(&here, v, m)).map(|(v, _)| v.address(edition)).collect()
     }
 
     /// Pages in the caller's hand with at least these rights, in random order.
@@ -79,32 +87,35 @@ impl<Show: FnMut(&[u32], Answer, &[u32])> Maker<'_, Show> {
     }
 
     fn rights(&self, page: u32) -> u32 {
-        Partition::current(self.mem).mapping(self.mem, VPage::of(page)).map_or(7, |m| m.rights)
+        Partition::current(self.mem).mapping(self.mem, self.page(page)).map_or(7, |m| m.rights)
     }
 
     fn partition(&self, child: u32) -> Option<Partition> {
-        let mapping = Partition::current(self.mem).mapping(self.mem, VPage::of(child))?;
+        let mapping = Partition::current(self.mem).mapping(self.mem, self.page(child))?;
         self.children().contains(&child).then(|| Partition::at(self.mem, mapping.page))
     }
 
     /// Addresses that the child's tables cover, mapped or not.
     fn covered(&self, child: u32, mapped: bool) -> Vec<u32> {
         let Some(child) = self.partition(child) else { return Vec::new() };
-        let places = child.tabled(self.mem).filter(|&v| v.0 != 0);
-        places.filter(|&v| child.mapping(self.mem, v).is_some() == mapped).map(VPage::address).collect()
+        let places = child.tabled(self.mem).filter(|&(v, [entry, ..])| v.0 != 0 && (entry != 0) == mapped);
+        places.map(|(v, _)| v.address(self.edition())).collect()
     }
 
     // Arguments.
 
     /// Any address, often a bad one.
     fn stray(&mut self) -> u32 {
-        let page = (1 + self.random.below(4095) as u32) * page_bytes();
+        let (words, size) = (self.edition().page_words(), self.edition().page_bytes());
+        let (pages, end) = (self.edition().virtual_pages(), self.edition().virtual_end());
+        let page = (1 + self.random.below(pages as usize - 1) as u32) * size;
         match self.random.below(9) {
-            0 => (virtual_end() + u64::from(page_bytes()) * self.random.below(3) as u64) as u32,
-            1 => 4 * self.random.below(64) as u32,
-            2 => page + 1 + self.random.below(255) as u32,
+            // Large pages end with the 32 bits: there this is page 0, 1 or 2.
+            0 => (end as u32).wrapping_add(size * self.random.below(3) as u32),
+            1 => 4 * self.random.below(words) as u32,
+            2 => page + 1 + self.random.below(size as usize - 1) as u32,
             3 => self.random.draw() as u32,
-            4 => (virtual_end() - u64::from(page_bytes())) as u32,
+            4 => (pages - 1) * size,
             5 => page,
             _ => self.random.pick(&self.mapped(|_, _, _| true)).unwrap_or(page),
         }
@@ -122,9 +133,12 @@ impl<Show: FnMut(&[u32], Answer, &[u32])> Maker<'_, Show> {
     fn bare(&mut self, child: u32) -> u32 {
         let child = self.partition(child);
         let bare = |i: &usize| child.is_none_or(|c| !c.has_three(self.mem, *i));
-        let indices: Vec<usize> = (0..page_words()).filter(bare).collect();
-        let index = self.random.pick(&indices).unwrap_or(0);
-        VPage::at(index, 1 + self.random.below(page_words() - 1)).address()
+        let words = self.edition().page_words();
+        let indices: Vec<usize> = (0..words).filter(bare).collect();
+        let last = indices.last().copied().filter(|_| self.random.once_in(6));
+        let index = last.or_else(|| self.random.pick(&indices)).unwrap_or(0);
+        let place = 1 + self.random.below(words - 1);
+        self.address(index, place)
     }
 
     /// Mostly an address that the child's tables cover.
@@ -188,7 +202,8 @@ impl<Show: FnMut(&[u32], Answer, &[u32])> Maker<'_, Show> {
             8 | 11 | 12 => {
                 let all = number == 8 || self.random.once_in(10);
                 let pages = self.mapped(|_, _, m| all || m.accessible);
-                let place = if number == 8 { 0 } else { 4 * self.random.below(64) as u32 };
+                let words = self.edition().page_words();
+                let place = if number == 8 { 0 } else { 4 * self.random.below(words) as u32 };
                 let address = self.mostly(&pages).wrapping_add(place);
                 [number, address, self.random.draw() as u32][..if number == 12 { 3 } else { 2 }].to_vec()
             }
@@ -242,7 +257,7 @@ impl<Show: FnMut(&[u32], Answer, &[u32])> Maker<'_, Show> {
         }
         let target = self.bare(child);
         self.say(&[6, child, target, a]);
-        Some(VPage::of(target).directory_index())
+        Some(self.page(target).directory_index(self.edition()))
     }
 
     /// Goes down level by level: a child, a three for it, pages lent to it, and in.
@@ -251,9 +266,15 @@ impl<Show: FnMut(&[u32], Answer, &[u32])> Maker<'_, Show> {
             let [a, b, c, d, e, _, _, _, _, ..] = self.hand(READ + WRITE)[..] else { break };
             self.say(&[1, a, b, c, d, e]);
             let Some(index) = self.furnish(a) else { break };
-            let mut slots: Vec<u32> = (0..page_words()).map(|j| VPage::at(index, j).address()).collect();
+            let words = self.edition().page_words();
+            let mut slots: Vec<u32> = (0..words).map(|j| self.address(index, j)).collect();
             slots.retain(|&slot| slot != 0);
+            let last = self.address(index, words - 1);
             self.random.shuffle(&mut slots);
+            if self.random.once_in(2) {
+                slots.retain(|&slot| slot != last);
+                slots.insert(0, last);
+            }
             let mut pages = self.hand(0);
             if loose && self.random.once_in(2) {
                 pages.truncate(2 + pages.len() / 2);
@@ -305,7 +326,7 @@ impl<Show: FnMut(&[u32], Answer, &[u32])> Maker<'_, Show> {
             }
         }
         let mut places = self.covered(child, false);
-        places.dedup_by_key(|place| VPage::of(*place).directory_index());
+        places.dedup_by_key(|place| self.page(*place).directory_index(self.edition()));
         for place in places {
             self.say(&[7, child, place]);
         }

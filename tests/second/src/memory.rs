@@ -1,4 +1,4 @@
-//! Reading and writing the words of pages, partitions and tables.
+//! Reading and writing the words of pages, partitions and tables, as of the edition that the memory's header names.
 //! Every access is bounded: a word outside the memory reads as 0 and is never written.
 
 use crate::geometry::*;
@@ -15,20 +15,29 @@ pub const IS_CHILD: u32 = 1;
 pub const PRESENT: u32 = 1;
 pub const ACCESSIBLE: u32 = 2;
 
+/// The index of the page's first word.
+pub fn start(mem: &[u32], page: PPage) -> usize {
+    page.0 as usize * Edition::of(mem).page_words()
+}
+
 pub fn word(mem: &[u32], page: PPage, index: usize) -> u32 {
-    mem.get(page.0 as usize * page_words() + index).copied().unwrap_or(0)
+    mem.get(start(mem, page) + index).copied().unwrap_or(0)
 }
 
 pub fn set_word(mem: &mut [u32], page: PPage, index: usize, value: u32) {
-    if let Some(word) = mem.get_mut(page.0 as usize * page_words() + index) {
+    let start = start(mem, page);
+    if let Some(word) = mem.get_mut(start + index) {
         *word = value;
     }
 }
 
 /// The page as its own part of the memory.
 pub fn page_mut(mem: &mut [u32], page: PPage) -> &mut [u32] {
-    let start = page.0 as usize * page_words();
-    mem.get_mut(start..start + page_words()).unwrap_or(&mut [])
+    mem.get_mut(words_of(mem, page)).unwrap_or(&mut [])
+}
+
+fn words_of(mem: &[u32], page: PPage) -> std::ops::Range<usize> {
+    start(mem, page)..start(mem, PPage(page.0 + 1))
 }
 
 /// The five pages of one partition.
@@ -46,13 +55,13 @@ impl Partition {
     pub fn at(mem: &[u32], descriptor: PPage) -> Partition {
         let named = |pair: usize| match descriptor {
             ROOT_PAGE => PPage(1 + pair as u32),
-            _ => PPage::of(word(mem, descriptor, 2 * pair + 1)),
+            _ => named_page(mem, descriptor, 2 * pair + 1),
         };
         Partition { descriptor, directory: named(1), shadow1: named(2), shadow2: named(3), list: named(4) }
     }
 
     pub fn current(mem: &[u32]) -> Partition {
-        Partition::at(mem, PPage::of(word(mem, HEADER, CURRENT)))
+        Partition::at(mem, named_page(mem, HEADER, CURRENT))
     }
 
     /// The directory and the two shadow roots.
@@ -65,7 +74,7 @@ impl Partition {
     }
 
     pub fn mapping(&self, mem: &[u32], v: VPage) -> Option<Mapping> {
-        Mapping::decode(table_word(mem, self.directory, v))
+        Mapping::decode(Edition::of(mem), table_word(mem, self.directory, v))
     }
 
     pub fn shadow1(&self, mem: &[u32], v: VPage) -> u32 {
@@ -76,17 +85,24 @@ impl Partition {
         table_word(mem, self.shadow2, v)
     }
 
-    /// Every virtual page that has tables, in order.
-    pub fn tabled<'a>(&self, mem: &'a [u32]) -> impl Iterator<Item = VPage> + 'a {
-        let own = *self;
-        let indices = (0..page_words()).filter(move |&i| own.has_three(mem, i));
-        indices.flat_map(|i| (0..page_words()).map(move |j| VPage::at(i, j)))
+    /// Every virtual page that has tables, in order, with its words there: page table, shadow 1 and shadow 2.
+    pub fn tabled<'a>(&self, mem: &'a [u32]) -> impl Iterator<Item = (VPage, [u32; 3])> + 'a {
+        let (own, edition) = (*self, Edition::of(mem));
+        let indices = (0..edition.page_words()).filter(move |&i| own.has_three(mem, i));
+        indices.flat_map(move |i| {
+            let tables = own.roots().map(|root| {
+                let table = table(mem, root, VPage::at(edition, i, 0));
+                table.and_then(|page| mem.get(words_of(mem, page))).unwrap_or(&[])
+            });
+            (0..edition.page_words())
+                .map(move |j| (VPage::at(edition, i, j), tables.map(|table| table.get(j).copied().unwrap_or(0))))
+        })
     }
 
     /// Every present mapping, in order.
     pub fn mappings<'a>(&self, mem: &'a [u32]) -> impl Iterator<Item = (VPage, Mapping)> + 'a {
-        let own = *self;
-        self.tabled(mem).filter_map(move |v| own.mapping(mem, v).map(|m| (v, m)))
+        let edition = Edition::of(mem);
+        self.tabled(mem).filter_map(move |(v, [entry, ..])| Mapping::decode(edition, entry).map(|m| (v, m)))
     }
 
     /// Present, accessible, and neither lent nor a child's descriptor.
@@ -112,7 +128,12 @@ impl Partition {
 }
 
 fn pair(mem: &[u32], page: PPage, index: usize) -> (VPage, PPage) {
-    (VPage::of(word(mem, page, index)), PPage::of(word(mem, page, index + 1)))
+    (VPage::of(Edition::of(mem), word(mem, page, index)), named_page(mem, page, index + 1))
+}
+
+/// The page that a word names by its physical address.
+pub fn named_page(mem: &[u32], page: PPage, index: usize) -> PPage {
+    PPage::of(Edition::of(mem), word(mem, page, index))
 }
 
 /// A present page table word.
@@ -124,30 +145,30 @@ pub struct Mapping {
 }
 
 impl Mapping {
-    pub fn decode(word: u32) -> Option<Mapping> {
-        let mapping =
-            Mapping { page: PPage::of(word), accessible: word & ACCESSIBLE != 0, rights: word >> 2 & ALL_RIGHTS };
-        (word & PRESENT != 0).then_some(mapping)
+    pub fn decode(edition: Edition, word: u32) -> Option<Mapping> {
+        let (page, accessible) = (PPage::of(edition, word), word & ACCESSIBLE != 0);
+        (word & PRESENT != 0).then_some(Mapping { page, accessible, rights: word >> 2 & ALL_RIGHTS })
     }
 
-    pub fn encode(self) -> u32 {
-        self.page.address() + PRESENT + ACCESSIBLE * u32::from(self.accessible) + 4 * self.rights
+    pub fn encode(self, edition: Edition) -> u32 {
+        self.page.address(edition) + PRESENT + ACCESSIBLE * u32::from(self.accessible) + 4 * self.rights
     }
 }
 
 /// The table that a directory or shadow root has for a virtual page.
 fn table(mem: &[u32], root: PPage, v: VPage) -> Option<PPage> {
-    let entry = word(mem, root, v.directory_index());
-    (entry != 0).then_some(PPage::of(entry))
+    let edition = Edition::of(mem);
+    let entry = word(mem, root, v.directory_index(edition));
+    (entry != 0).then_some(PPage::of(edition, entry))
 }
 
 /// A word in an absent table counts as 0.
 pub fn table_word(mem: &[u32], root: PPage, v: VPage) -> u32 {
-    table(mem, root, v).map_or(0, |t| word(mem, t, v.table_index()))
+    table(mem, root, v).map_or(0, |t| word(mem, t, v.table_index(Edition::of(mem))))
 }
 
 pub fn set_table_word(mem: &mut [u32], root: PPage, v: VPage, value: u32) {
     if let Some(t) = table(mem, root, v) {
-        set_word(mem, t, v.table_index(), value);
+        set_word(mem, t, v.table_index(Edition::of(mem)), value);
     }
 }

@@ -1,7 +1,7 @@
 //! The start-up record: magic, begin, end and 64 revision bytes, little-endian.
 
 use crate::calls::Answer;
-use crate::geometry::{page_bytes, Sizes};
+use crate::geometry::Sizes;
 use crate::refusal::*;
 use crate::sound::sound;
 
@@ -20,12 +20,13 @@ pub struct Extent {
 /// Writes the first 76 bytes of the buffer; bytes past them stay.
 pub fn write(mem: &[u32], revision: &[u8], buffer: &mut [u8]) -> Answer {
     sound(mem).map_err(|_| DAMAGED)?;
-    let sizes = Sizes::of_length(mem.len()).ok_or(DAMAGED)?;
+    let sizes = Sizes::of(mem).ok_or(DAMAGED)?;
+    let page_bytes = sizes.edition.page_bytes();
     let revision = revision.get(..REVISION).ok_or(SHORT)?;
     let record = buffer.get_mut(..LENGTH).ok_or(SHORT)?;
     record[..4].copy_from_slice(&MAGIC_BYTES);
-    record[4..8].copy_from_slice(&page_bytes().to_le_bytes());
-    record[8..12].copy_from_slice(&(page_bytes() * (sizes.free + 1)).to_le_bytes());
+    record[4..8].copy_from_slice(&page_bytes.to_le_bytes());
+    record[8..12].copy_from_slice(&(page_bytes * (sizes.free + 1)).to_le_bytes());
     record[12..].copy_from_slice(revision);
     Ok(0)
 }

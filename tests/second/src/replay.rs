@@ -1,7 +1,7 @@
-//! Replay: a script of call records becomes a transcript, one line for each record.
+//! Replay: a script of call records becomes a transcript, one line for each record. Its memory has small pages.
 
 use crate::calls::{call, format, ARGUMENTS};
-use crate::geometry::{page_words, Sizes};
+use crate::geometry::{Sizes, SMALL};
 
 pub const MOST_BYTES: usize = 4096;
 
@@ -25,7 +25,7 @@ fn read(bytes: &[u8]) -> Option<Script> {
     }
     let mut rest = bytes;
     let (pages, count, offset) = (next(&mut rest)?, next(&mut rest)?, next(&mut rest)? as usize);
-    let sizes = Sizes::of_pages(pages as usize)?;
+    let sizes = Sizes::of_pages(SMALL, pages as usize)?;
     if offset < 12 {
         return None;
     }
@@ -51,10 +51,10 @@ fn next(rest: &mut &[u8]) -> Option<u32> {
 }
 
 fn run(script: &Script) -> String {
-    let mut mem = vec![0; script.sizes.pages as usize * page_words()];
+    let mut mem = vec![0; script.sizes.pages as usize * SMALL.page_words()];
     let mut transcript = format!("{} {}\n", script.sizes.pages, script.sizes.free);
     // Never refuses: the page count was checked with the script.
-    let _ = format(&mut mem, 0);
+    let _ = format(&mut mem, SMALL.number);
     for (place, record) in script.records.iter().enumerate() {
         match call(&mut mem, record[0], &record[1..]) {
             Some(Ok(answer)) => transcript += &format!("{} ok {answer}\n", place + 1),

@@ -1,6 +1,6 @@
 //! When memory is sound: nine sentences, judged in order over every partition of the tree.
 
-use crate::calls::format;
+use crate::calls::fill_formatted;
 use crate::geometry::*;
 use crate::memory::*;
 use crate::tree::{tree, Node};
@@ -25,21 +25,23 @@ const SENTENCES: [fn(&Judged) -> bool; 9] = [
 
 /// Ok, or the number of the first broken sentence, from 1.
 pub fn sound(mem: &[u32]) -> Result<(), u32> {
-    read_as(mem);
-    let sizes = Sizes::of_length(mem.len()).ok_or(1u32)?;
+    let sizes = Sizes::of(mem).ok_or(1u32)?;
     let judged = Judged { mem, sizes, tree: tree(mem) };
     SENTENCES.iter().zip(1..).try_for_each(|(holds, number)| holds(&judged).then_some(()).ok_or(number))
 }
 
 /// The numbers of all broken sentences.
 pub fn broken(mem: &[u32]) -> Vec<u32> {
-    read_as(mem);
-    let Some(sizes) = Sizes::of_length(mem.len()) else { return vec![1] };
+    let Some(sizes) = Sizes::of(mem) else { return vec![1] };
     let judged = Judged { mem, sizes, tree: tree(mem) };
     SENTENCES.iter().zip(1..).filter(|(holds, _)| !holds(&judged)).map(|(_, number)| number).collect()
 }
 
 impl Judged<'_> {
+    fn edition(&self) -> Edition {
+        self.sizes.edition
+    }
+
     fn each(&self, holds: impl Fn(&Partition) -> bool) -> bool {
         self.tree.iter().all(|node| holds(&node.partition))
     }
@@ -53,15 +55,16 @@ impl Judged<'_> {
     }
 
     fn is_virtual(&self, address: u32) -> bool {
-        address.is_multiple_of(page_bytes()) && u64::from(address) < virtual_end()
+        address.is_multiple_of(self.edition().page_bytes()) && u64::from(address) < self.edition().virtual_end()
     }
 
     fn is_physical(&self, address: u32) -> bool {
-        address.is_multiple_of(page_bytes()) && address / page_bytes() < self.sizes.pages
+        address.is_multiple_of(self.edition().page_bytes()) && PPage::of(self.edition(), address).0 < self.sizes.pages
     }
 
-    fn zero(&self, page: PPage, words: std::ops::Range<usize>) -> bool {
-        words.into_iter().all(|i| word(self.mem, page, i) == 0)
+    /// The page's words from this index on are 0.
+    fn zero(&self, page: PPage, from: usize) -> bool {
+        (from..self.edition().page_words()).all(|i| word(self.mem, page, i) == 0)
     }
 }
 
@@ -75,11 +78,10 @@ fn forms(j: &Judged) -> bool {
     let header = |i| word(j.mem, HEADER, i);
     header(0) == j.sizes.pages
         && header(1) == j.sizes.threes
-        && header(2) == ROOT_PAGE.address()
-        && header(3) == j.sizes.first_flat().address()
+        && header(2) == ROOT_PAGE.address(j.edition())
+        && header(3) == j.sizes.first_flat().address(j.edition())
         && j.is_physical(header(CURRENT))
-        && header(EDITION) == edition()
-        && j.zero(HEADER, EDITION + 1..page_words())
+        && j.zero(HEADER, EDITION + 1)
         && j.each(|p| descriptor_form(j, p) && list_form(j, p) && roots_form(j, p) && tables_form(j, p))
 }
 
@@ -92,40 +94,35 @@ fn descriptor_form(j: &Judged, p: &Partition) -> bool {
     pairs_form(j, p.descriptor, 0, 5)
         && word(j.mem, p.descriptor, PARENT - 1) == 0
         && j.is_physical(word(j.mem, p.descriptor, PARENT))
-        && j.zero(p.descriptor, PARENT + 1..page_words())
+        && j.zero(p.descriptor, PARENT + 1)
 }
 
 fn list_form(j: &Judged, p: &Partition) -> bool {
     let used = word(j.mem, p.list, 0) as usize;
-    used % 6 == 1
-        && used <= 1 + 6 * MOST_THREES
-        && pairs_form(j, p.list, 1, used / 2)
-        && j.zero(p.list, used..page_words())
+    used % 6 == 1 && used <= 1 + 6 * MOST_THREES && pairs_form(j, p.list, 1, used / 2) && j.zero(p.list, used)
 }
 
 fn roots_form(j: &Judged, p: &Partition) -> bool {
-    (0..page_words()).all(|i| {
+    (0..j.edition().page_words()).all(|i| {
         let entries = p.roots().map(|root| word(j.mem, root, i));
         entries == [0; 3] || entries.iter().all(|&e| e != 0 && j.is_physical(e - 1))
     })
 }
 
 fn tables_form(j: &Judged, p: &Partition) -> bool {
-    p.tabled(j.mem).all(|v| {
-        let entry = table_word(j.mem, p.directory, v);
+    p.tabled(j.mem).all(|(v, [entry, shadow1, shadow2])| {
         let rest = entry & !(PRESENT + ACCESSIBLE + 4 * ALL_RIGHTS);
         let entry_fits = entry == 0 || entry & PRESENT != 0 && j.is_physical(rest) && v != VPage(0);
-        let shadow1 = p.shadow1(j.mem, v);
-        entry_fits && (shadow1 == IS_CHILD || j.is_virtual(shadow1)) && j.is_virtual(p.shadow2(j.mem, v))
+        entry_fits && (shadow1 == IS_CHILD || j.is_virtual(shadow1)) && j.is_virtual(shadow2)
     })
 }
 
 // 2. The root's five pages are as format leaves them, and it maps exactly the flat pages.
 fn root_as_formatted(j: &Judged) -> bool {
-    let mut fresh = vec![0; j.mem.len()];
-    let _ = format(&mut fresh, edition());
+    let mut fresh = vec![0; start(j.mem, j.sizes.first_flat())];
+    fill_formatted(&mut fresh, j.sizes);
     let root = Partition::at(j.mem, ROOT_PAGE);
-    let five = page_words()..FIRST_THREE as usize * page_words();
+    let five = start(j.mem, ROOT_PAGE)..start(j.mem, PPage(FIRST_THREE));
     let flat = |mem: &[u32]| -> Vec<_> {
         root.mappings(mem).map(|(v, m)| (v, m.page, m.rights, root.shadow2(mem, v))).collect()
     };
@@ -137,8 +134,8 @@ fn threes_listed_once(j: &Judged) -> bool {
     j.each(|p| {
         let pairs = p.list_pairs(j.mem);
         let listed: Vec<_> =
-            pairs.chunks(3).map(|three| [0, 1, 2].map(|kind| three[kind].1.address() + PRESENT)).collect();
-        let standing: Vec<_> = (0..page_words())
+            pairs.chunks(3).map(|three| [0, 1, 2].map(|kind| three[kind].1.address(j.edition()) + PRESENT)).collect();
+        let standing: Vec<_> = (0..j.edition().page_words())
             .map(|i| p.roots().map(|root| word(j.mem, root, i)))
             .filter(|entries| *entries != [0; 3])
             .collect();
@@ -149,20 +146,20 @@ fn threes_listed_once(j: &Judged) -> bool {
 
 // 4. Every shadow 1 word 1 leads to a child whose parent word, first pair and other pairs agree.
 fn children_agree(j: &Judged) -> bool {
-    j.each(|p| p.tabled(j.mem).all(|v| p.shadow1(j.mem, v) != IS_CHILD || leads_to_child(j.mem, p, v)))
+    j.each(|p| p.tabled(j.mem).all(|(v, [_, shadow1, _])| shadow1 != IS_CHILD || leads_to_child(j.mem, p, v)))
 }
 
 fn leads_to_child(mem: &[u32], parent: &Partition, v: VPage) -> bool {
     let Some(m) = parent.mapping(mem, v) else { return false };
     let pairs = Partition::at(mem, m.page).kernel_pairs(mem);
-    word(mem, m.page, PARENT) == parent.descriptor.address()
+    word(mem, m.page, PARENT) == parent.descriptor.address(Edition::of(mem))
         && pairs[0] == (v, m.page)
         && pairs.iter().all(|&(at, page)| parent.mapping(mem, at).is_some_and(|m| m.page == page))
 }
 
 // 5. The tree is at most 8 below the root, and current is in it.
 fn tree_bounded(j: &Judged) -> bool {
-    let current = PPage::of(word(j.mem, HEADER, CURRENT));
+    let current = named_page(j.mem, HEADER, CURRENT);
     j.tree.iter().all(|node| node.depth <= MOST_DEPTH) && j.tree.iter().any(|node| node.partition.descriptor == current)
 }
 
@@ -170,23 +167,23 @@ fn tree_bounded(j: &Judged) -> bool {
 fn lent_pages_match(j: &Judged) -> bool {
     let backed = j.each_child(|child, parent, at| {
         child.mappings(j.mem).all(|(v, m)| {
-            let lender = VPage::of(child.shadow2(j.mem, v));
+            let lender = VPage::of(j.edition(), child.shadow2(j.mem, v));
             parent
                 .mapping(j.mem, lender)
                 .is_some_and(|own| own.page == m.page && own.accessible == m.accessible && m.rights & !own.rights == 0)
-                && parent.shadow1(j.mem, lender) == at.address()
+                && parent.shadow1(j.mem, lender) == at.address(j.edition())
         })
     });
     let once = j.each_child(|child, parent, at| {
         let mut lenders: Vec<_> = child.mappings(j.mem).map(|(v, _)| child.shadow2(j.mem, v)).collect();
         lenders.sort_unstable();
-        let lent = parent.mappings(j.mem).filter(|&(v, _)| parent.shadow1(j.mem, v) == at.address());
-        lent.map(|(v, _)| v.address()).eq(lenders)
+        let lent = parent.mappings(j.mem).filter(|&(v, _)| parent.shadow1(j.mem, v) == at.address(j.edition()));
+        lent.map(|(v, _)| v.address(j.edition())).eq(lenders)
     });
     let named = j.each(|p| {
         p.mappings(j.mem).all(|(v, _)| {
             let name = p.shadow1(j.mem, v);
-            !is_lent(name) || p.shadow1(j.mem, VPage::of(name)) == IS_CHILD
+            !is_lent(name) || p.shadow1(j.mem, VPage::of(j.edition(), name)) == IS_CHILD
         })
     });
     backed && once && named
@@ -232,6 +229,6 @@ fn one_use_each(j: &Judged) -> bool {
 // 9. An absent mapping has 0 in all three table words.
 fn absent_words_zero(j: &Judged) -> bool {
     j.each(|p| {
-        p.tabled(j.mem).all(|v| p.mapping(j.mem, v).is_some() || p.shadow1(j.mem, v) == 0 && p.shadow2(j.mem, v) == 0)
+        p.tabled(j.mem).all(|(_, [entry, shadow1, shadow2])| entry & PRESENT != 0 || shadow1 == 0 && shadow2 == 0)
     })
 }

@@ -1,6 +1,6 @@
 //! The partitions reached from the root by shadow 1 words 1 on present mappings.
 
-use crate::geometry::{page_words, PPage, VPage};
+use crate::geometry::{Edition, PPage, VPage};
 use crate::memory::*;
 
 pub struct Node {
@@ -12,7 +12,7 @@ pub struct Node {
 
 /// Breadth first. Each descriptor page is marked when met, so the walk ends on any memory.
 pub fn tree(mem: &[u32]) -> Vec<Node> {
-    let mut met = vec![false; mem.len() / page_words()];
+    let mut met = vec![false; mem.len() / Edition::of(mem).page_words()];
     let mut nodes = Vec::new();
     let mut add = |nodes: &mut Vec<Node>, page: PPage, parent, depth| {
         if let Some(mark @ false) = met.get_mut(page.0 as usize) {

@@ -3,14 +3,13 @@
 mod common;
 use common::*;
 use second::calls::*;
-use second::geometry::Sizes;
-use second::geometry::{PPage, VPage};
+use second::geometry::{PPage, Sizes, VPage, SMALL};
 use second::memory::{table_word, word, Partition, ROOT_PAGE};
 
 #[test]
 fn sizes() {
     for (n, t, f) in [(16, 1, 7), (72, 1, 63), (73, 2, 61), (256, 4, 238)] {
-        let sizes = Sizes::of_pages(n).unwrap();
+        let sizes = Sizes::of_pages(SMALL, n).unwrap();
         assert_eq!((sizes.threes, sizes.free), (t, f));
         let mem = formatted(n);
         assert_eq!((mem[0], mem[1]), (n as u32, t));

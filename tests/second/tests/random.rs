@@ -5,7 +5,7 @@ use common::*;
 use second::calls::found;
 use second::cover::Cover;
 use second::damage::{damage, wide_damage};
-use second::geometry::{PPage, Sizes, VPage};
+use second::geometry::{PPage, Sizes, VPage, EDITIONS, LARGE, SMALL};
 use second::make::make;
 use second::memory::Partition;
 use second::random::Random;
@@ -16,7 +16,7 @@ use std::collections::BTreeSet;
 /// Counts of pages in hand and of kernel pages add to F; each page has one use; kernel pages are
 /// nowhere accessible; siblings share no page.
 fn check_counts(mem: &[u32]) {
-    let sizes = Sizes::of_length(mem.len()).unwrap();
+    let sizes = Sizes::of(mem).unwrap();
     let nodes = tree(mem);
     let mut hand = Vec::new();
     let mut kernel: Vec<PPage> = Vec::new();
@@ -42,9 +42,11 @@ fn check_counts(mem: &[u32]) {
 
 #[test]
 fn every_call_keeps_the_memory_sound() {
-    for (seed, pages, count) in [(1, 16, 2000), (2, 20, 3000), (3, 73, 3000), (4, 140, 3000), (5, 256, 3000)] {
-        let mut mem = formatted(pages);
-        for line in make(seed, count, pages) {
+    let small = [(1, 16, 2000), (2, 20, 3000), (3, 73, 3000), (4, 140, 3000), (5, 256, 3000)];
+    let large = [(1, 16, 1000), (2, 20, 1500), (3, 100, 1500)];
+    for (edition, (seed, pages, count)) in small.map(|s| (SMALL, s)).into_iter().chain(large.map(|s| (LARGE, s))) {
+        let mut mem = formatted_as(edition, pages);
+        for line in make(edition, seed, count, pages) {
             let before = mem.clone();
             let answer = say(&mut mem, &line);
             assert_eq!(sound(&mem), Ok(()), "{line:?}");
@@ -57,47 +59,57 @@ fn every_call_keeps_the_memory_sound() {
 
 #[test]
 fn every_refusal_comes_up() {
-    let mut cover = Cover::default();
-    for seed in 1..=3 {
-        let mut mem = formatted(256);
-        for line in make(seed, 4000, 256) {
-            cover.count(line[0] as usize, say(&mut mem, &line));
+    for (edition, pages, count) in [(SMALL, 256, 4000), (LARGE, 90, 2000)] {
+        let mut cover = Cover::default();
+        for seed in 1..=3 {
+            let mut mem = vec![7; pages * edition.page_words()];
+            for line in std::iter::once(vec![0, edition.number]).chain(make(edition, seed, count, pages)) {
+                cover.count(line[0] as usize, say(&mut mem, &line));
+            }
         }
+        // What is left needs damaged memory or another length, or is the record's.
+        let mut left = cover.missing();
+        left.retain(|pair| !pair.ends_with(" no 1") && !pair.starts_with("record"));
+        assert_eq!(left, ["format no 2"]);
+        assert!(cover.passed() > cover.calls() * 3 / 4);
     }
-    // What is left needs damaged memory or another length, or is the record's.
-    let mut left = cover.missing();
-    left.retain(|pair| !pair.ends_with(" no 1") && !pair.starts_with("record"));
-    assert_eq!(left, ["format no 2"]);
-    assert!(cover.passed() > cover.calls() * 3 / 4);
 }
 
 #[test]
 fn every_sentence_is_broken_alone() {
-    let (mut mem, mut random, mut alone, mut deep) = (formatted(100), Random::new(12), BTreeSet::new(), 0);
-    for line in make(12, 2000, 100) {
-        let answer = say(&mut mem, &line);
-        let mut copy = mem.clone();
-        if answer == Err(13) {
-            // The same child all the same is one too deep, and nothing else is wrong.
-            found(&mut copy, &Partition::current(&mem), [1, 2, 3, 4, 5].map(|k| VPage::of(line[k])));
-            assert_eq!(broken(&copy), [5]);
-            deep += 1;
-            continue;
+    for edition in EDITIONS {
+        let (mut mem, mut random) = (formatted_as(edition, 90), Random::new(12));
+        let (mut alone, mut deep) = (BTreeSet::new(), 0);
+        for line in make(edition, 2, 1500, 90) {
+            let answer = say(&mut mem, &line);
+            if answer == Err(13) {
+                // The same child all the same is one too deep, and nothing else is wrong.
+                let mut copy = mem.clone();
+                let five = [1, 2, 3, 4, 5].map(|k| VPage::of(edition, line[k]));
+                found(&mut copy, &Partition::current(&mem), five);
+                assert_eq!(broken(&copy), [5]);
+                deep += 1;
+            }
+            for _ in 0..3 {
+                let mut copy = mem.clone();
+                wide_damage(&mem, &mut random).into_iter().for_each(|(index, value)| copy[index] = value);
+                if let [sentence] = broken(&copy)[..] {
+                    alone.insert(sentence);
+                }
+            }
         }
-        wide_damage(&mem, &mut random).into_iter().for_each(|(index, value)| copy[index] = value);
-        if let [sentence] = broken(&copy)[..] {
-            alone.insert(sentence);
-        }
+        assert!(alone.iter().copied().eq(1..=9) && deep > 0, "{edition:?}: {alone:?} {deep}");
     }
-    assert!(alone.into_iter().eq(1..=9) && deep > 0);
 }
 
 #[test]
 fn any_sound_memory_stays_sound() {
     let mut random = Random::new(11);
-    for (seed, pages) in [(6, 20), (7, 73), (8, 256)] {
-        let lines = make(seed, 2000, pages);
-        let mut mem = formatted(pages);
+    for (edition, seed, pages, count) in
+        [(SMALL, 6, 20, 2000), (SMALL, 7, 73, 2000), (SMALL, 8, 256, 2000), (LARGE, 9, 20, 1000), (LARGE, 10, 81, 500)]
+    {
+        let lines = make(edition, seed, count, pages);
+        let mut mem = formatted_as(edition, pages);
         for part in lines.chunks(100) {
             for _ in 0..20 {
                 let mut copy = mem.clone();
@@ -117,6 +129,6 @@ fn any_sound_memory_stays_sound() {
 
 #[test]
 fn the_same_seed_makes_the_same_calls() {
-    assert_eq!(make(9, 500, 73), make(9, 500, 73));
-    assert_ne!(make(9, 500, 73), make(10, 500, 73));
+    assert_eq!(make(SMALL, 9, 500, 73), make(SMALL, 9, 500, 73));
+    assert_ne!(make(SMALL, 9, 500, 73), make(SMALL, 10, 500, 73));
 }

@@ -2,7 +2,7 @@
 
 mod common;
 use common::*;
-use second::geometry::{PPage, VPage};
+use second::geometry::{PPage, VPage, SMALL};
 use second::memory::{table_word, Partition};
 use second::replay::replay;
 
@@ -52,8 +52,8 @@ fn morning_in_memory() {
     let mut mem = formatted(20);
     pass(&mut mem, &MORNING[..6]);
     let child = Partition::at(&mem, PPage(9));
-    assert_eq!(table_word(&mem, child.directory, VPage::of(4096)), 4367);
-    assert_eq!(table_word(&mem, child.shadow2, VPage::of(4096)), 2304);
+    assert_eq!(table_word(&mem, child.directory, VPage::of(SMALL, 4096)), 4367);
+    assert_eq!(table_word(&mem, child.shadow2, VPage::of(SMALL, 4096)), 2304);
     for line in &MORNING[6..] {
         let _ = say(&mut mem, line);
     }

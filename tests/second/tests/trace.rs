@@ -28,6 +28,18 @@ fn run() {
 }
 
 #[test]
+fn run_with_large_pages() {
+    // The length is that of 256 small pages: format may choose either edition.
+    let lines = trace(&["run"], "16 1\n8 256\n8 4096\n0 0\n8 256\n0 2\n0 1\n8 256\n");
+    let answers: Vec<_> = lines.lines().map(|line| line.rsplit_once(' ').unwrap().0).collect();
+    assert_eq!(answers, ["ok 0", "no 3", "ok 0", "ok 0", "ok 0", "no 2", "ok 0", "no 3"]);
+    assert_eq!(trace(&["run"], "15 1\n").split_at(5).0, "no 2 ");
+    let made = trace(&["make", "5", "100", "20", "1"], "");
+    assert!(made.starts_with("20 1\n"));
+    assert_eq!(trace(&["run"], &made).lines().count(), 101);
+}
+
+#[test]
 fn make_cover_and_damage() {
     let made = trace(&["make", "5", "300", "73"], "");
     assert_eq!(made.lines().count(), 301);

@@ -3,8 +3,8 @@
 use second::calls::{call, ARGUMENTS};
 use second::cover::Cover;
 use second::damage::{damage, wide_damage};
-use second::geometry::page_words;
-use second::make::make_for;
+use second::geometry::Edition;
+use second::make::make;
 use second::random::Random;
 use second::record;
 use second::refusal::DAMAGED;
@@ -18,6 +18,7 @@ const USAGE: &str =
 
 struct File {
     pages: usize,
+    edition: Edition,
     calls: Vec<Vec<u32>>,
 }
 
@@ -127,14 +128,19 @@ fn number(word: &str) -> io::Result<u32> {
 
 /// Bad page counts may be tried, within reason.
 fn page_count(word: &str) -> io::Result<usize> {
-    Some(number(word)? as usize).filter(|&pages| pages <= 4096).ok_or(io::Error::other("too many pages"))
+    Some(number(word)? as usize).filter(|&pages| pages <= 5000).ok_or(io::Error::other("too many pages"))
 }
 
-/// The first line is the page count, each further line a call.
+fn edition(word: &str) -> io::Result<Edition> {
+    Edition::numbered(number(word)?).ok_or(io::Error::other(format!("no edition: {word}")))
+}
+
+/// The first line is the page count and the edition, 0 where it is left out; each further line is a call.
 fn read() -> io::Result<File> {
     let text = io::read_to_string(io::stdin())?;
     let mut lines = text.lines();
-    let pages = page_count(lines.next().unwrap_or("").trim())?;
+    let mut first = lines.next().unwrap_or("").split_whitespace();
+    let (pages, edition) = (page_count(first.next().unwrap_or(""))?, edition(first.next().unwrap_or("0"))?);
     let mut calls = Vec::new();
     for line in lines {
         let numbers = line.split_whitespace().map(number).collect::<io::Result<Vec<u32>>>()?;
@@ -144,13 +150,14 @@ fn read() -> io::Result<File> {
         }
         calls.push(numbers);
     }
-    Ok(File { pages, calls })
+    Ok(File { pages, edition, calls })
 }
 
 /// Formats a filled memory and performs the calls, showing each answer with the memory after it.
 fn perform(file: &File, mut show: impl FnMut(u32, Result<u32, u32>, &[u32]) -> io::Result<()>) -> io::Result<Vec<u32>> {
-    let mut mem: Vec<u32> = (0..(file.pages * page_words()) as u32).map(|i| i.wrapping_mul(2_654_435_761)).collect();
-    for line in std::iter::once(&vec![0, 0]).chain(&file.calls) {
+    let words = (file.pages * file.edition.page_words()) as u32;
+    let mut mem: Vec<u32> = (0..words).map(|i| i.wrapping_mul(2_654_435_761)).collect();
+    for line in std::iter::once(&vec![0, file.edition.number]).chain(&file.calls) {
         if let Some(answer) = call(&mut mem, line[0], &line[1..]) {
             show(line[0], answer, &mem)?;
         }
@@ -178,10 +185,10 @@ fn hash(mem: &[u32]) -> u64 {
     bytes.fold(0xcbf2_9ce4_8422_2325, |hash, byte| (hash ^ u64::from(byte)).wrapping_mul(0x100_0000_01b3))
 }
 
-fn print_made(seed: &str, count: &str, pages: &str, edition: &str, out: &mut impl Write) -> io::Result<()> {
-    let pages = page_count(pages)?;
-    writeln!(out, "{pages}")?;
-    for line in make_for(number(edition)?, number(seed)?, number(count)? as usize, pages) {
+fn print_made(seed: &str, count: &str, pages: &str, chosen: &str, out: &mut impl Write) -> io::Result<()> {
+    let (pages, edition) = (page_count(pages)?, edition(chosen)?);
+    writeln!(out, "{pages} {}", edition.number)?;
+    for line in make(edition, number(seed)?, number(count)? as usize, pages) {
         let numbers: Vec<String> = line.iter().map(u32::to_string).collect();
         writeln!(out, "{}", numbers.join(" "))?;
     }

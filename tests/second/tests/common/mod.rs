@@ -2,11 +2,16 @@
 #![allow(dead_code)]
 
 use second::calls::*;
+use second::geometry::{Edition, SMALL};
 
-/// A freshly formatted memory of the old edition.
+/// A freshly formatted memory of small pages.
 pub fn formatted(pages: usize) -> Vec<u32> {
-    let mut mem = vec![0xA5A5_A5A5; pages * 64];
-    assert_eq!(format(&mut mem, 0), Ok(0));
+    formatted_as(SMALL, pages)
+}
+
+pub fn formatted_as(edition: Edition, pages: usize) -> Vec<u32> {
+    let mut mem = vec![0xA5A5_A5A5; pages * edition.page_words()];
+    assert_eq!(format(&mut mem, edition.number), Ok(0));
     mem
 }
 
