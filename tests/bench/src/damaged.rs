@@ -2,7 +2,7 @@
 
 use crate::measure::rough;
 use second::damage::wide_damage;
-use second::geometry::{PPage, VPage};
+use second::geometry::{PPage, VPage, SMALL};
 use second::memory::{Partition, CURRENT};
 use second::random::Random;
 use second::sound::sound as is_sound;
@@ -96,7 +96,8 @@ fn often(m: &mut [u32]) {
     let lends = |p: &Partition| p.mappings(m).map(|(v, _)| v).find(|&v| p.shadow1(m, v) > 1);
     let Some(node) = last_node(m, |p| p.descriptor != PPage(1) && lends(p).is_some()) else { return };
     let Some(v) = lends(&node.partition) else { return };
-    let words = tables(m, &node.partition, v.directory_index()).map(|table| m[PAGE * table + v.table_index()]);
+    let (index, place) = (v.directory_index(SMALL), v.table_index(SMALL));
+    let words = tables(m, &node.partition, index).map(|table| m[PAGE * table + place]);
     for i in 0..PAGE {
         if !node.partition.has_three(m, i) {
             continue;

@@ -4,6 +4,7 @@ use bench::call::{Call, JUDGE, JUDGED_SOUND};
 use bench::ordinary::is_sound;
 use second::calls::call;
 use second::damage::wide_damage;
+use second::geometry::SMALL;
 use second::make::make;
 use second::random::Random;
 use second::sound::sound;
@@ -14,7 +15,7 @@ const SIZES: [usize; 8] = [16, 20, 33, 72, 73, 120, 200, 256];
 fn all(seed: u32, calls: usize, pages: usize, mut then: impl FnMut(&[u32])) {
     let mut ordinary = vec![0; 64 * pages];
     let (mut proved, mut other) = (ordinary.clone(), ordinary.clone());
-    for line in std::iter::once(vec![0]).chain(make(seed, calls, pages)) {
+    for line in std::iter::once(vec![0, SMALL.number]).chain(make(SMALL, seed, calls, pages)) {
         let made = Call::new(line[0], &line[1..]);
         let answer = made.ordinary(&mut ordinary);
         assert_eq!(answer, made.proved(&mut proved), "{line:?}");
