@@ -23,8 +23,11 @@ def made(seed, count, pages, edition):
 
 def memories():
     s = sequences
-    return s.barred() + s.unformatted() + s.deep() + s.eleven() + s.grandchildren() + s.together() + s.editions() + \
-        [([64, 1024][edition] * pages, s.guided(made(seed, count, pages, edition), edition)) for seed, count, pages, edition in s.GUIDED]
+    out = s.barred() + s.unformatted() + s.deep() + s.eleven() + s.grandchildren() + s.together() + s.choices() + s.changes() + s.large_pages()
+    for runs in s.GUIDED:
+        words, = {[64, 1024][edition] * pages for _, _, pages, edition in runs}
+        out.append((words, [part for run in runs for part in s.guided(made(*run), run[3])]))
+    return out
 
 
 def written():

@@ -2,10 +2,23 @@
 
 A call is its number and its arguments; 0 is format, whose argument is the edition. Every word of a memory starts as 7."""
 
-PAGE = 256
-LOFT = 64 * PAGE  # where pages are lent to a child: its table at directory index 1
-TWELVE = [[1, 256, 512, 768, 1024, 1280], [2, 256], [3, 256, 512, 4096, 7], [4, 256, 4096], [5, 256, 4096], [6, 256, 4096, 512], [7, 256, 4096],
-          [8, 256], [9, 256], [10], [11, 256], [12, 256, 1]]
+PAGE, LARGE = 256, 4096  # bytes of a page, by edition
+BOTH = 16384             # words of 256 small pages, and of 16 large ones
+LOFT = 64 * PAGE         # where pages are lent to a child: its table at directory index 1
+
+
+def twelve(page):
+    """Each call once, with addresses on the first pages."""
+    a = [page * k for k in range(17)]
+    return [[1] + a[1:6], [2, a[1]], [3, a[1], a[2], a[16], 7], [4, a[1], a[16]], [5, a[1], a[16]], [6, a[1], a[16], a[2]], [7, a[1], a[16]],
+            [8, a[1]], [9, a[1]], [10], [11, a[1]], [12, a[1], 1]]
+
+
+def morning(page):
+    """The bench morning of document 01, with pages of so many bytes."""
+    a = [page * k for k in range(17)]
+    return [[1] + a[1:6], [5, a[1], a[16]], [12, a[6], a[7]], [12, a[7], a[8]], [6, a[1], a[16], a[6]], [3, a[9], a[1], a[16], 3], [8, a[9]], [12, a[1], 1],
+            [9, a[1]], [12, a[16] + 4, 77], [10], [11, a[9] + 4], [4, a[1], a[16]], [7, a[1], a[16]], [2, a[1]]]
 
 
 def alone(calls):
@@ -21,13 +34,14 @@ def down(base, pages):
 
 
 def barred():
-    """No length that is permitted: format is refused with 2 and every other call with 1. 15 and 257 pages, a word too few or too many, one word."""
-    return [(words, [[[0, 0]] + TWELVE[:6], TWELVE[6:]]) for words in (15 * 64, 257 * 64, 16 * 64 - 1, 16 * 64 + 1, 256 * 64 + 63, 1)]
+    """No length that is permitted: format is refused with 2 and every other call with 1. 15 and 257 small pages, a word too few or too many, one word."""
+    calls = twelve(PAGE)
+    return [(words, [[[0, 0], [0, 1]] + calls[:6], calls[6:]]) for words in (15 * 64, 257 * 64, 16 * 64 - 1, 16 * 64 + 1, BOTH - 1, BOTH + 1, BOTH + 63, 1)]
 
 
 def unformatted():
     """A length that is permitted, but no header yet: every call is refused with 1 until format."""
-    return [(16 * 64, alone(TWELVE + [[0, 0]] + TWELVE))]
+    return [(words, alone(twelve(page) + [[0, edition]] + twelve(page))) for words, page, edition in ((16 * 64, PAGE, 0), (17 * 1024, LARGE, 1))]
 
 
 def deep():
@@ -68,31 +82,47 @@ def together():
     """Many calls in one part, a cut call, and numbers that no call has: what follows in the part is not run, the next part is."""
     chained = [[12, 1536, 1792], [12, 1792, 2048], [6, 256, 4096, 1536]]
     lend = [[3, 2304, 256, 4096, 3], [8, 2304], [9, 256], [12, 4100, 77], [10], [11, 2308]]
-    return [(20 * 64, [[[0, 0], TWELVE[0]] + chained + lend, [[11, 2308], [1, 256, 512, 768, 1024]], [[13]], [[11, 2308], [4294967295], [0, 0]], [[12, 2308]],
+    child = [1, 256, 512, 768, 1024, 1280]
+    return [(20 * 64, [[[0, 0], child] + chained + lend, [[11, 2308], child[:5]], [[13]], [[11, 2308], [4294967295], [0, 0]], [[12, 2308]],
                        [[4, 256, 4096], [7, 256, 4096], [2, 256]], [[10]] * 64, [[0, 0]] * 32])]
 
 
-def editions():
-    """16,384 words are a length of both editions: the last format that passes decides how the memory is read. Then the bench morning with pages of 4,096
-    bytes, twice; and a length of the new edition alone."""
-    child, large = TWELVE[0], lambda call: [call[0]] + [16 * word for word in call[1:]]
-    both = [[0, 1], [0, 2], [0, 4294967295], child, large(child), [12, 4096 * 6, 7], [12, 256, 1], [0, 0], large(child), child, [11, 256 * 6], [9, 256], [0, 1],
-            [10], [11, 4096 * 7 + 4092], [11, 4294967292], [11, 4294963200], [8, 4294963200], [0, 0], [11, 1048576], [2, 256]]
-    morning = [child, [5, 256, 4096], [12, 1536, 1792], [12, 1792, 2048], [6, 256, 4096, 1536], [3, 2304, 256, 4096, 3], [8, 2304], [12, 256, 1], [9, 256],
-               [12, 4100, 77], [10], [11, 2308], [4, 256, 4096], [7, 256, 4096], [2, 256]]
-    wide = {3: [1, 1, 1, 0], 12: [1, 0]}  # which arguments are addresses, where not all
-    scaled = lambda call: [call[0]] + [16 * w if a else w for w, a in zip(call[1:], wide.get(call[0], [1] * 5))]
-    links = {(12, 1536), (12, 1792)}      # the words stored there are addresses
-    large_morning = [[0, 1]] + [[c[0]] + [16 * w for w in c[1:]] if tuple(c[:2]) in links else scaled(c) for c in morning]
-    return [(16384, alone(both)), (20 * 1024, alone(large_morning + [[0, 0]] + large_morning)), (17 * 1024, alone([[0, 0], [0, 1], large(child), [0, 0]]))]
+def choices():
+    """A length of one edition alone: format is refused with 2 where it chooses the other or none, and changes nothing."""
+    refused = lambda edition: [[0, choice] for choice in (1 - edition, 2, 6, 10, 4294967295)]
+    return [(words, alone(refused(edition) + [[0, edition], [1] + [page * k for k in range(1, 6)]] + refused(edition) + [[9, page], [10]]))
+            for words, page, edition in ((20 * 64, PAGE, 0), (240 * 64, PAGE, 0), (17 * 1024, LARGE, 1), (20 * 1024, LARGE, 1))]
 
 
-# Seed, number of calls, N and edition of the guided sequences: with those above every answer of every call occurs.
-GUIDED = [(1, 300, 16, 0), (2, 600, 20, 0), (3, 1500, 73, 0), (4, 1500, 256, 0), (5, 60, 16, 1), (6, 200, 20, 1)]
+def changes():
+    """A length of both editions: the last format that passes decides how the memory is read, whichever partition was current."""
+    creates = [[1] + [page * k for k in range(1, 6)] for page in (PAGE, LARGE)]
+    small = [[0, 0]] + creates + [[0, 2], [12, PAGE * 6, 7], [9, PAGE]]
+    large = [[0, 1]] + creates + [[0, 2], [12, LARGE * 7 + 4092, 7], [12, PAGE, 1], [9, LARGE]]
+    return [(BOTH, alone(large + small + large + [[10]] + [[0, 0]] + morning(PAGE))),
+            (BOTH, alone(small + large + [[0, 0]] + morning(PAGE)[:9] + [[0, 1]] + twelve(LARGE) + [[0, 1]]))]
+
+
+def large_pages():
+    """The bench morning with large pages, twice; and the last virtual page: as an argument, as a link, and mapped in a child."""
+    last = 2 ** 32 - LARGE
+    a = [LARGE * k for k in range(12)]
+    edge = [[0, 1], [8, last], [11, last + 4092], [8, last + 1], [9, last], [1] + a[1:6], [3, last, a[1], a[1], 7], [6, a[1], last, last],
+            [12, a[6], last], [6, a[1], last, a[6]], [12, a[6], a[7]], [12, a[7], a[8]], [5, a[1], last], [6, a[1], last, a[6]], [5, a[1], last],
+            [3, a[9], a[1], last, 7], [3, a[10], a[1], last, 3], [3, a[10], a[1], last - LARGE, 3], [3, a[11], a[1], a[1], 3], [8, a[9]],
+            [9, a[1]], [12, last + 4092, 77], [11, last + 4092], [12, last - 4, 78], [11, last - LARGE - 4], [10], [11, a[9] + 4092], [11, a[10] + 4092],
+            [4, a[1], last], [4, a[1], last], [7, a[1], last], [4, a[1], last - LARGE], [7, a[1], last], [2, a[1]]]
+    return [(20 * 1024, alone([[0, 1]] + morning(LARGE) + [[0, 0], [0, 1]] + morning(LARGE))), (20 * 1024, alone(edge))]
+
+
+# The guided sequences, for each memory one after the other from format: seed, number of calls, N and edition. With those above every answer of every call
+# occurs. A memory that has both editions changes from one to the other.
+GUIDED = [[(1, 300, 16, 0)], [(2, 600, 20, 0)], [(3, 1500, 73, 0)], [(4, 1500, 256, 0)], [(5, 200, 16, 1)], [(6, 400, 20, 1)],
+          [(7, 80, 16, 1), (8, 120, 256, 0), (9, 80, 16, 1), (10, 120, 256, 0)]]
 
 
 def guided(lines, edition):
-    """Calls that tests/second makes: three in four are one part each, then a part of several."""
+    """Format, and calls that tests/second makes: three in four are one part each, then a part of several."""
     parts = []
     while lines:
         take = 5 if len(parts) % 4 == 3 else 1
