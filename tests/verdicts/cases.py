@@ -1,7 +1,8 @@
 """Memories to be judged: calls from format, then changed words. For each soundness sentence one memory that breaks just that sentence, and sound ones.
 
 Numbers of pages for N = 40: root virtual page v is page 8 + v; the child is page 9 with its three in pages 14 to 16, the grandchild page 17 with its
-three in pages 22 to 24, and root page 17 is lent through both."""
+three in pages 22 to 24, and root page 17 is lent through both. Memories of 16 large pages have the length of 256 small ones and are formatted so after
+them; the child is page 9 there, too."""
 
 FAMILY = [[1, 256, 512, 768, 1024, 1280], [12, 1536, 1792], [12, 1792, 2048], [6, 256, 4096, 1536],
           [3, 2304, 256, 4096, 7], [3, 2560, 256, 4352, 7], [3, 2816, 256, 4608, 7], [3, 3072, 256, 4864, 7], [3, 3328, 256, 5120, 7],
@@ -10,8 +11,15 @@ FAMILY = [[1, 256, 512, 768, 1024, 1280], [12, 1536, 1792], [12, 1792, 2048], [6
 SECOND_CHILD = [[1, 4608, 4864, 5120, 5376, 5632]]
 
 
+LARGE_CHILD = [[0, 1], [1, 4096, 8192, 12288, 16384, 20480]]
+
+
 def at(page, word, value):
     return (64 * page + word, value)
+
+
+def at_large(page, word, value):
+    return (1024 * page + word, value)
 
 
 def deep():
@@ -57,4 +65,20 @@ CASES = [
     ("7: a child's descriptor accessible", 40, FAMILY, [at(6, 1, 2335)], [7]),
     ('8: one page in two kernel uses', 40, FAMILY + SECOND_CHILD, [at(26, 6, 5120), at(26, 7, 7168), at(6, 21, 7455)], [8]),
     ('9: a shadow 2 word with no mapping', 40, FAMILY, [at(16, 3, 256)], [9]),
+    ('large pages: fresh', 256, [[0, 1]], [], []),
+    ('large pages: a child', 256, LARGE_CHILD, [], []),
+    ('large pages: a child is current', 256, LARGE_CHILD + [[9, 4096]], [], []),
+    ('large pages: a word of a page in hand', 256, LARGE_CHILD, [at_large(15, 1023, 4294967295)], []),
+    ('large pages: 1: the edition is none', 256, LARGE_CHILD, [(5, 2)], [1]),
+    ('large pages: 1: the edition is the other', 256, LARGE_CHILD, [(5, 0)], [1, 2, 5, 8]),
+    ('small pages: 1: the edition is the other', 256, [], [(5, 1)], [1, 2, 5, 8]),
+    ('large pages: 1: the last header word', 256, LARGE_CHILD, [at_large(0, 1023, 1)], [1]),
+    ('large pages: 1: the last flag bit', 256, LARGE_CHILD, [at_large(6, 7, 61471 + 2048)], [1]),
+    ('large pages: 1: the last list word', 256, LARGE_CHILD, [at_large(13, 1023, 4096)], [1]),
+    ('large pages: 2: a right of the root gone', 256, LARGE_CHILD, [at_large(6, 7, 61471 - 16)], [2]),
+    ("large pages: 4: a child's parent another page", 256, LARGE_CHILD, [at_large(9, 11, 8192)], [4]),
+    ('large pages: 5: current no partition', 256, LARGE_CHILD, [(4, 40960)], [5]),
+    ("large pages: 7: a child's descriptor accessible", 256, LARGE_CHILD, [at_large(6, 1, 36895)], [7]),
+    ('large pages: 8: one page in two kernel uses', 256, LARGE_CHILD, [at_large(9, 4, 16384), at_large(9, 5, 49152), at_large(6, 3, 45087)], [8]),
+    ('large pages: 9: a shadow 2 word with no mapping', 256, LARGE_CHILD, [at_large(8, 1023, 4096)], [9]),
 ]

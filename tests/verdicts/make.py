@@ -39,7 +39,7 @@ def main():
         told = said.stdout.decode().strip()
         if told != str(broken):
             sys.exit('%s: the second program says %s, wanted %s' % (name, told, broken))
-        print('%-40s %s' % (name, told))
+        print('%-50s %s' % (name, told))
     for name, text in ('stdin', stdin), ('stdout', stdout.encode()):
         path = os.path.join(CRATE, name)
         if '--check' in sys.argv:
