@@ -88,7 +88,7 @@ fn wipe(mem: &mut [u32], caller: &Partition, at: VPage, accessible: bool) {
     let (mut own, mut v, edition) = (*caller, at, Edition::of(mem));
     for _ in 0..=MOST_DEPTH {
         if let Some(mapping) = own.mapping(mem, v) {
-            page_mut(mem, mapping.page).fill(0);
+            words_of_mut(mem, mapping.page).fill(0);
             set_table_word(mem, own.directory, v, Mapping { accessible, ..mapping }.encode(edition));
         }
         let Some(parent) = parent_of(mem, own.descriptor) else { break };
@@ -284,7 +284,7 @@ pub fn collect(mem: &mut [u32], child: u32, target: u32) -> Answer {
     }
     // Later pairs move down over the dropped six words; the last six become 0.
     let used = 1 + 2 * pairs.len();
-    let list = page_mut(mem, child.list);
+    let list = words_of_mut(mem, child.list);
     list.copy_within(1 + 6 * (place + 1)..used, 1 + 6 * place);
     list[used - 6..used].fill(0);
     list[0] = used as u32 - 6;

@@ -249,9 +249,14 @@ impl<Show: FnMut(&[u32], Answer, &[u32])> Maker<'_, Show> {
 
     // Longer works.
 
-    /// Three good pages as a three for the child at a bare index; answers that index.
+    /// Three good pages as a three for the child at a bare index; answers that index. The highest page is often a link.
     fn furnish(&mut self, child: u32) -> Option<usize> {
-        let [a, b, c, ..] = self.hand(READ + WRITE)[..] else { return None };
+        let mut hand = self.hand(READ + WRITE);
+        if hand.len() > 2 && self.random.once_in(3) {
+            let highest = (0..hand.len()).max_by_key(|&place| hand[place])?;
+            hand.swap(1, highest);
+        }
+        let [a, b, c, ..] = hand[..] else { return None };
         for line in [[12, a, b], [12, b, c], [12, c, 0]] {
             self.say(&line);
         }

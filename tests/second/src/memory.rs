@@ -31,13 +31,14 @@ pub fn set_word(mem: &mut [u32], page: PPage, index: usize, value: u32) {
     }
 }
 
-/// The page as its own part of the memory.
-pub fn page_mut(mem: &mut [u32], page: PPage) -> &mut [u32] {
-    mem.get_mut(words_of(mem, page)).unwrap_or(&mut [])
+/// The page as its own part of the memory; empty where it is outside.
+pub fn words_of(mem: &[u32], page: PPage) -> &[u32] {
+    mem.get(start(mem, page)..start(mem, PPage(page.0 + 1))).unwrap_or(&[])
 }
 
-fn words_of(mem: &[u32], page: PPage) -> std::ops::Range<usize> {
-    start(mem, page)..start(mem, PPage(page.0 + 1))
+pub fn words_of_mut(mem: &mut [u32], page: PPage) -> &mut [u32] {
+    let words = start(mem, page)..start(mem, PPage(page.0 + 1));
+    mem.get_mut(words).unwrap_or(&mut [])
 }
 
 /// The five pages of one partition.
@@ -85,24 +86,32 @@ impl Partition {
         table_word(mem, self.shadow2, v)
     }
 
+    /// The words of directory, shadow 1 and shadow 2 at each index.
+    pub fn root_words<'a>(&self, mem: &'a [u32]) -> impl Iterator<Item = [u32; 3]> + 'a {
+        columns(mem, self.roots().map(Some))
+    }
+
+    /// The indices that have tables, in order.
+    fn indices<'a>(&self, mem: &'a [u32]) -> impl Iterator<Item = usize> + 'a {
+        words_of(mem, self.directory).iter().enumerate().filter(|(_, &entry)| entry != 0).map(|(index, _)| index)
+    }
+
     /// Every virtual page that has tables, in order, with its words there: page table, shadow 1 and shadow 2.
     pub fn tabled<'a>(&self, mem: &'a [u32]) -> impl Iterator<Item = (VPage, [u32; 3])> + 'a {
         let (own, edition) = (*self, Edition::of(mem));
-        let indices = (0..edition.page_words()).filter(move |&i| own.has_three(mem, i));
-        indices.flat_map(move |i| {
-            let tables = own.roots().map(|root| {
-                let table = table(mem, root, VPage::at(edition, i, 0));
-                table.and_then(|page| mem.get(words_of(mem, page))).unwrap_or(&[])
-            });
-            (0..edition.page_words())
-                .map(move |j| (VPage::at(edition, i, j), tables.map(|table| table.get(j).copied().unwrap_or(0))))
+        self.indices(mem).flat_map(move |i| {
+            let tables = own.roots().map(|root| table(mem, root, VPage::at(edition, i, 0)));
+            columns(mem, tables).enumerate().map(move |(j, words)| (VPage::at(edition, i, j), words))
         })
     }
 
     /// Every present mapping, in order.
     pub fn mappings<'a>(&self, mem: &'a [u32]) -> impl Iterator<Item = (VPage, Mapping)> + 'a {
-        let edition = Edition::of(mem);
-        self.tabled(mem).filter_map(move |(v, [entry, ..])| Mapping::decode(edition, entry).map(|m| (v, m)))
+        let (own, edition) = (*self, Edition::of(mem));
+        self.indices(mem).flat_map(move |i| {
+            let table = words_of(mem, named_page(mem, own.directory, i)).iter().enumerate();
+            table.filter_map(move |(j, &word)| Some((VPage::at(edition, i, j), Mapping::decode(edition, word)?)))
+        })
     }
 
     /// Present, accessible, and neither lent nor a child's descriptor.
@@ -125,6 +134,12 @@ impl Partition {
         pairs.extend(self.list_pairs(mem));
         pairs
     }
+}
+
+/// The words of three pages at each index; a page that is absent or outside the memory counts as 0.
+fn columns(mem: &[u32], pages: [Option<PPage>; 3]) -> impl Iterator<Item = [u32; 3]> + '_ {
+    let pages = pages.map(|absent| absent.map_or(&[][..], |present| words_of(mem, present)));
+    (0..Edition::of(mem).page_words()).map(move |i| pages.map(|page| page.get(i).copied().unwrap_or(0)))
 }
 
 fn pair(mem: &[u32], page: PPage, index: usize) -> (VPage, PPage) {

@@ -47,9 +47,9 @@ impl Judged<'_> {
     }
 
     /// Asks of each child: the child, its parent and the child's descriptor address there.
-    fn each_child(&self, holds: impl Fn(&Partition, &Partition, VPage) -> bool) -> bool {
+    fn each_child(&self, holds: impl Fn(&Node, &Node, u32) -> bool) -> bool {
         self.tree.iter().all(|node| match node.parent {
-            Some((place, at)) => holds(&node.partition, &self.tree[place].partition, at),
+            Some((place, at)) => holds(node, &self.tree[place], at.address(self.edition())),
             None => true,
         })
     }
@@ -64,7 +64,7 @@ impl Judged<'_> {
 
     /// The page's words from this index on are 0.
     fn zero(&self, page: PPage, from: usize) -> bool {
-        (from..self.edition().page_words()).all(|i| word(self.mem, page, i) == 0)
+        words_of(self.mem, page).iter().skip(from).all(|&word| word == 0)
     }
 }
 
@@ -103,10 +103,7 @@ fn list_form(j: &Judged, p: &Partition) -> bool {
 }
 
 fn roots_form(j: &Judged, p: &Partition) -> bool {
-    (0..j.edition().page_words()).all(|i| {
-        let entries = p.roots().map(|root| word(j.mem, root, i));
-        entries == [0; 3] || entries.iter().all(|&e| e != 0 && j.is_physical(e - 1))
-    })
+    p.root_words(j.mem).all(|entries| entries == [0; 3] || entries.iter().all(|&e| e != 0 && j.is_physical(e - 1)))
 }
 
 fn tables_form(j: &Judged, p: &Partition) -> bool {
@@ -135,10 +132,7 @@ fn threes_listed_once(j: &Judged) -> bool {
         let pairs = p.list_pairs(j.mem);
         let listed: Vec<_> =
             pairs.chunks(3).map(|three| [0, 1, 2].map(|kind| three[kind].1.address(j.edition()) + PRESENT)).collect();
-        let standing: Vec<_> = (0..j.edition().page_words())
-            .map(|i| p.roots().map(|root| word(j.mem, root, i)))
-            .filter(|entries| *entries != [0; 3])
-            .collect();
+        let standing: Vec<_> = p.root_words(j.mem).filter(|entries| *entries != [0; 3]).collect();
         let once = |all: &[[u32; 3]], one: &[u32; 3]| all.iter().filter(|x| *x == one).count() == 1;
         listed.iter().all(|three| once(&standing, three)) && standing.iter().all(|three| once(&listed, three))
     })
@@ -165,25 +159,25 @@ fn tree_bounded(j: &Judged) -> bool {
 
 // 6. Each page mapped in a child is lent to it by its parent; each lent page is mapped there once.
 fn lent_pages_match(j: &Judged) -> bool {
-    let backed = j.each_child(|child, parent, at| {
-        child.mappings(j.mem).all(|(v, m)| {
-            let lender = VPage::of(j.edition(), child.shadow2(j.mem, v));
+    let backed = j.each_child(|child, Node { partition: parent, .. }, at| {
+        child.mappings.iter().all(|&(v, m)| {
+            let lender = VPage::of(j.edition(), child.partition.shadow2(j.mem, v));
             parent
                 .mapping(j.mem, lender)
                 .is_some_and(|own| own.page == m.page && own.accessible == m.accessible && m.rights & !own.rights == 0)
-                && parent.shadow1(j.mem, lender) == at.address(j.edition())
+                && parent.shadow1(j.mem, lender) == at
         })
     });
     let once = j.each_child(|child, parent, at| {
-        let mut lenders: Vec<_> = child.mappings(j.mem).map(|(v, _)| child.shadow2(j.mem, v)).collect();
+        let mut lenders: Vec<_> = child.mappings.iter().map(|&(v, _)| child.partition.shadow2(j.mem, v)).collect();
         lenders.sort_unstable();
-        let lent = parent.mappings(j.mem).filter(|&(v, _)| parent.shadow1(j.mem, v) == at.address(j.edition()));
+        let lent = parent.mappings.iter().filter(|&&(v, _)| parent.partition.shadow1(j.mem, v) == at);
         lent.map(|(v, _)| v.address(j.edition())).eq(lenders)
     });
-    let named = j.each(|p| {
-        p.mappings(j.mem).all(|(v, _)| {
-            let name = p.shadow1(j.mem, v);
-            !is_lent(name) || p.shadow1(j.mem, VPage::of(j.edition(), name)) == IS_CHILD
+    let named = j.tree.iter().all(|Node { partition, mappings, .. }| {
+        mappings.iter().all(|&(v, _)| {
+            let name = partition.shadow1(j.mem, v);
+            !is_lent(name) || partition.shadow1(j.mem, VPage::of(j.edition(), name)) == IS_CHILD
         })
     });
     backed && once && named
@@ -191,8 +185,8 @@ fn lent_pages_match(j: &Judged) -> bool {
 
 // 7. Children's kernel pages are inaccessible and not lent; no other page that isn't lent is.
 fn kernel_pages_closed(j: &Judged) -> bool {
-    let closed = j.each_child(|child, parent, _| {
-        child.kernel_pairs(j.mem).iter().all(|&(at, _)| {
+    let closed = j.each_child(|child, Node { partition: parent, .. }, _| {
+        child.partition.kernel_pairs(j.mem).iter().all(|&(at, _)| {
             parent.mapping(j.mem, at).is_some_and(|m| !m.accessible) && !is_lent(parent.shadow1(j.mem, at))
         })
     });
@@ -204,9 +198,9 @@ fn kernel_pages_closed(j: &Judged) -> bool {
     }
     let no_other = j.tree.iter().zip(&mut kernel).all(|(node, kernel)| {
         kernel.sort_unstable();
-        node.partition
-            .mappings(j.mem)
-            .all(|(v, m)| m.accessible || is_lent(node.partition.shadow1(j.mem, v)) || kernel.binary_search(&v).is_ok())
+        node.mappings.iter().all(|&(v, m)| {
+            m.accessible || is_lent(node.partition.shadow1(j.mem, v)) || kernel.binary_search(&v).is_ok()
+        })
     });
     closed && no_other
 }
@@ -214,8 +208,8 @@ fn kernel_pages_closed(j: &Judged) -> bool {
 // 8. Pages 1 to N-1 are each in exactly one hand or one kernel use.
 fn one_use_each(j: &Judged) -> bool {
     let mut uses = vec![0u32; j.sizes.pages as usize];
-    for Node { partition, .. } in &j.tree {
-        let hand = partition.mappings(j.mem).filter(|&(v, _)| partition.in_hand(j.mem, v));
+    for Node { partition, mappings, .. } in &j.tree {
+        let hand = mappings.iter().filter(|&&(v, _)| partition.in_hand(j.mem, v));
         let kernel = partition.kernel_pairs(j.mem).into_iter().map(|pair| pair.1);
         for page in hand.map(|(_, m)| m.page).chain(kernel) {
             if let Some(count) = uses.get_mut(page.0 as usize) {

@@ -5,6 +5,8 @@ use crate::memory::*;
 
 pub struct Node {
     pub partition: Partition,
+    /// Its present mappings, in order.
+    pub mappings: Vec<(VPage, Mapping)>,
     /// The parent's place in the tree, and the child's descriptor address there; none for the root.
     pub parent: Option<(usize, VPage)>,
     pub depth: usize,
@@ -17,17 +19,18 @@ pub fn tree(mem: &[u32]) -> Vec<Node> {
     let mut add = |nodes: &mut Vec<Node>, page: PPage, parent, depth| {
         if let Some(mark @ false) = met.get_mut(page.0 as usize) {
             *mark = true;
-            nodes.push(Node { partition: Partition::at(mem, page), parent, depth });
+            let partition = Partition::at(mem, page);
+            nodes.push(Node { partition, mappings: partition.mappings(mem).collect(), parent, depth });
         }
     };
     add(&mut nodes, ROOT_PAGE, None, 0);
     let mut place = 0;
     while place < nodes.len() {
-        let (own, depth) = (nodes[place].partition, nodes[place].depth);
-        for (v, m) in own.mappings(mem) {
-            if own.shadow1(mem, v) == IS_CHILD {
-                add(&mut nodes, m.page, Some((place, v)), depth + 1);
-            }
+        let Node { partition, ref mappings, depth, .. } = nodes[place];
+        let is_child = |&&(v, _): &&(VPage, Mapping)| partition.shadow1(mem, v) == IS_CHILD;
+        let children: Vec<_> = mappings.iter().filter(is_child).copied().collect();
+        for (v, m) in children {
+            add(&mut nodes, m.page, Some((place, v)), depth + 1);
         }
         place += 1;
     }

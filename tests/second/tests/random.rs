@@ -59,7 +59,7 @@ fn every_call_keeps_the_memory_sound() {
 
 #[test]
 fn every_refusal_comes_up() {
-    for (edition, pages, count) in [(SMALL, 256, 4000), (LARGE, 90, 2000)] {
+    for (edition, pages, count) in [(SMALL, 256, 4000), (LARGE, 90, 4000)] {
         let mut cover = Cover::default();
         for seed in 1..=3 {
             let mut mem = vec![7; pages * edition.page_words()];
@@ -80,7 +80,7 @@ fn every_sentence_is_broken_alone() {
     for edition in EDITIONS {
         let (mut mem, mut random) = (formatted_as(edition, 90), Random::new(12));
         let (mut alone, mut deep) = (BTreeSet::new(), 0);
-        for line in make(edition, 2, 1500, 90) {
+        for line in make(edition, 7, 2000, 90) {
             let answer = say(&mut mem, &line);
             if answer == Err(13) {
                 // The same child all the same is one too deep, and nothing else is wrong.
