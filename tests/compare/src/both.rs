@@ -4,7 +4,7 @@ use crate::proved;
 use crate::tally::Tally;
 use second::calls::{call, Answer};
 use second::cover::ROWS;
-use second::geometry::PAGE_WORDS;
+use second::geometry::Edition;
 use second::refusal::DAMAGED;
 use second::sound::sound;
 
@@ -18,8 +18,7 @@ pub fn follow(
     flip: Option<(usize, usize)>,
     tally: &mut Tally,
 ) -> Result<(), String> {
-    tally.cover.count(line[0] as usize, answer);
-    tally.ways.count(proved, line, answer);
+    tally.called(proved, line, answer);
     let said = proved::call(proved, line);
     if let Some((index, bit)) = flip {
         proved[index] ^= 1 << bit;
@@ -36,7 +35,7 @@ pub fn perform(proved: &mut [u32], second: &mut [u32], line: &[u32], tally: &mut
 /// Whether the words are sound, told by both.
 pub fn verdict(words: &[u32], tally: &mut Tally) -> Result<(), String> {
     let (said, expected) = (proved::verdict(words), sound(words).map(|()| 0).map_err(|_| DAMAGED));
-    tally.verdicts[usize::from(expected.is_err())] += 1;
+    tally.of(words).verdicts[usize::from(expected.is_err())] += 1;
     let difference = || format!("verdict\n  proved {}, second {}", shown(said), shown(expected));
     (said == expected).then_some(()).ok_or_else(difference)
 }
@@ -45,8 +44,9 @@ fn same(proved: &[u32], second: &[u32], said: Answer, answer: Answer) -> Result<
     if said == answer && proved == second {
         return Ok(());
     }
+    let size = Edition::of(second).page_words();
     let word = (0..second.len()).find(|&i| proved[i] != second[i]).map_or("no word differs".to_string(), |i| {
-        let (page, place) = (i / PAGE_WORDS, i % PAGE_WORDS);
+        let (page, place) = (i / size, i % size);
         format!("word {i} (page {page}, word {place}): proved {:#x}, second {:#x}", proved[i], second[i])
     });
     Err(format!("  answer: proved {}, second {}\n  {word}", shown(said), shown(answer)))

@@ -16,7 +16,7 @@ use second::sound::broken;
 fn judge(mem: &[u32], random: &mut Random, tally: &mut Tally) -> Result<(), String> {
     let (mut proved, mut second) = (mem.to_vec(), mem.to_vec());
     let sentences = broken(mem);
-    tally.judged(&sentences);
+    tally.of(mem).judged(&sentences);
     let mut result = verdict(mem, tally);
     if sentences.is_empty() {
         guide(&mut second, random, 12, |line, answer, after| {
@@ -26,34 +26,40 @@ fn judge(mem: &[u32], random: &mut Random, tally: &mut Tally) -> Result<(), Stri
         });
     } else if result.is_ok() {
         let number = 1 + random.below(12);
-        result = perform(&mut proved, &mut second, &any_call(number, random), tally);
+        result = perform(&mut proved, &mut second, &any_call(mem, number, random), tally);
     }
     if result.is_ok() && random.once_in(8) {
+        let choice = random.below(3) as u32;
         result = records::compare(&mut proved, random, tally)
             .and_then(|()| perform(&mut proved, &mut second, &[10], tally))
-            .and_then(|()| perform(&mut proved, &mut second, &[0, 0], tally));
+            .and_then(|()| perform(&mut proved, &mut second, &[0, choice], tally));
     }
     result.map_err(|text| format!("memory that breaks {sentences:?}: {text}"))
 }
 
 /// Addresses that may well be good.
-fn any_call(number: usize, random: &mut Random) -> Vec<u32> {
+fn any_call(mem: &[u32], number: usize, random: &mut Random) -> Vec<u32> {
     let mut line = vec![number as u32];
-    line.extend((0..ARGUMENTS[number - 1]).map(|_| page_bytes() * random.below(300) as u32));
+    line.extend((0..ARGUMENTS[number - 1]).map(|_| Edition::of(mem).page_bytes() * random.below(300) as u32));
     line
 }
 
-/// A few words, or pages, of a sound memory changed; or its length.
+/// A few words, or pages, of a sound memory changed; or its header to another edition's; or its length.
 pub fn changed(mem: &[u32], random: &mut Random, tally: &mut Tally) -> Result<(), String> {
     let mut copy = mem.to_vec();
-    let pages = mem.len() / PAGE_WORDS;
-    let (one, other) = (PAGE_WORDS * random.below(pages), PAGE_WORDS * random.below(pages));
+    let words = Edition::of(mem).page_words();
+    let pages = mem.len() / words;
+    let (one, other) = (words * random.below(pages), words * random.below(pages));
     match random.below(40) {
-        0 => copy.copy_within(one..one + PAGE_WORDS, other),
-        1 => (0..PAGE_WORDS).for_each(|i| copy.swap(one + i, other + i)),
-        2 => copy.resize(mem.len() + random.pick(&[1, PAGE_WORDS]).unwrap_or(1), 0),
-        3 => copy.truncate(mem.len() - random.pick(&[1, PAGE_WORDS]).unwrap_or(1)),
+        0 => copy.copy_within(one..one + words, other),
+        1 => (0..words).for_each(|i| copy.swap(one + i, other + i)),
+        2 => copy.resize(mem.len() + random.pick(&[1, words]).unwrap_or(1), 0),
+        3 => copy.truncate(mem.len() - random.pick(&[1, words]).unwrap_or(1)),
+        4 => other_header(&mut copy, random),
         _ => wide_damage(mem, random).into_iter().for_each(|(index, value)| copy[index] = value),
+    }
+    if Edition::named(&copy).is_some_and(|edition| edition != Edition::of(mem)) {
+        tally.of(&copy).from_the_other += 1;
     }
     judge(&copy, random, tally).map_err(|text| {
         let words: Vec<_> = (0..copy.len()).filter(|&i| mem.get(i) != Some(&copy[i])).map(|i| (i, copy[i])).collect();
@@ -61,37 +67,67 @@ pub fn changed(mem: &[u32], random: &mut Random, tally: &mut Tally) -> Result<()
     })
 }
 
+/// The header, or the first pages, that the other edition's format writes, where it has the length; else its number alone.
+fn other_header(mem: &mut [u32], random: &mut Random) {
+    let other = EDITIONS[1 - Edition::of(mem).number as usize];
+    let mut fresh = vec![0; mem.len()];
+    let words = random.pick(&[EDITION + 1, other.page_words(), 6 * other.page_words()]).unwrap_or(0);
+    match format(&mut fresh, other.number) {
+        Ok(_) => mem[..words].copy_from_slice(&fresh[..words]),
+        Err(_) => mem[EDITION] = other.number,
+    }
+}
+
 /// The partition that was refused with 13, created all the same.
 pub fn one_too_deep(mem: &[u32], line: &[u32], random: &mut Random, tally: &mut Tally) -> Result<(), String> {
     let mut copy = mem.to_vec();
-    found(&mut copy, &Partition::current(mem), [1, 2, 3, 4, 5].map(|k| VPage::of(line[k])));
+    let five = [1, 2, 3, 4, 5].map(|k| VPage::of(Edition::of(mem), line[k]));
+    found(&mut copy, &Partition::current(mem), five);
     judge(&copy, random, tally).map_err(|text| format!("created all the same: {text}"))
 }
 
-/// Random words, all the same word, and words like the kernel's behind a good header.
-pub fn any_words(pages: usize, random: &mut Random, tally: &mut Tally) -> Result<(), String> {
-    let mut like: Vec<u32> = vec![0; pages * PAGE_WORDS];
-    let _ = format(&mut like, 0);
-    for word in &mut like[5..] {
-        let address = page_bytes() * random.below(pages + 2) as u32;
-        if !random.once_in(3) {
+/// Random words, all the same word, and words like the kernel's behind a good header, some 40 in a page. With large pages not each of them every time.
+pub fn any_words(edition: Edition, pages: usize, random: &mut Random, tally: &mut Tally) -> Result<(), String> {
+    let length = pages * edition.page_words();
+    let mut like = vec![0; length];
+    let _ = format(&mut like, edition.number);
+    for word in &mut like[EDITION + 1..] {
+        let address = edition.page_bytes() * random.below(pages + 2) as u32;
+        if random.once_in(edition.page_words() / 64) && !random.once_in(3) {
             *word = random.pick(&[0, 0, 1, address, address + 1, address + 29, address + 31]).unwrap_or(0);
         }
     }
-    let random_words = (0..like.len()).map(|_| random.draw() as u32).collect();
-    let memories = [random_words, like].into_iter().chain([0, 1, u32::MAX].map(|word| vec![word; pages * PAGE_WORDS]));
-    memories.into_iter().try_for_each(|mem| judge(&mem, random, tally))
+    let random_words: Vec<u32> = (0..length).map(|_| random.draw() as u32).collect();
+    let mut named = random_words.clone();
+    named[EDITION] = edition.number;
+    let memories = [random_words, named, like].into_iter().chain([0, 1, u32::MAX].map(|word| vec![word; length]));
+    memories.into_iter().try_for_each(|mem| match edition {
+        LARGE if !random.once_in(4) => Ok(()),
+        _ => judge(&mem, random, tally),
+    })
 }
 
-/// A length that is not permitted: format answers 2, every other call 1.
+/// A length that no edition has, or one alone.
 pub fn other_length(random: &mut Random, tally: &mut Tally) -> Result<(), String> {
-    let lengths = [0, 1, 63, 64, 960, 1023, 1025, 1087, 4700, 16383, 16385, 16447, 16448, 32768, random.below(1024)];
-    let length = random.pick(&lengths).unwrap_or(0);
-    let mut second: Vec<u32> = (0..length).map(|_| random.draw() as u32).collect();
-    let mut proved = second.clone();
-    verdict(&proved, tally).map_err(|text| format!("memory of {length} words: {text}"))?;
-    for line in std::iter::once(vec![0, 0]).chain((1..=12).map(|number| any_call(number, random))) {
-        perform(&mut proved, &mut second, &line, tally).map_err(|text| format!("memory of {length} words: {text}"))?;
+    let none = [0, 1, 5, 6, 63, 64, 960, 1023, 1025, 1087, 4700, 16383, 16385, 16447, 16448, 17407, random.below(1024)];
+    let one = [1024, 15360, 17408, 20480];
+    let length = random.pick(&none).filter(|_| !random.once_in(4)).or(random.pick(&one)).unwrap_or(0);
+    let mut words: Vec<u32> = (0..length).map(|_| random.draw() as u32).collect();
+    if let Some(word) = words.get_mut(EDITION) {
+        *word = random.below(3) as u32;
     }
-    Ok(())
+    each_call(words, random, tally)
+}
+
+/// Every call, format with each edition and with none, and every call again.
+pub fn each_call(mut words: Vec<u32>, random: &mut Random, tally: &mut Tally) -> Result<(), String> {
+    let mut proved = words.clone();
+    let mut result = verdict(&words, tally);
+    let formats = [2 + random.below(9) as u32, 0, 1].map(|choice| vec![0, choice]);
+    let mut calls = || -> Vec<_> { (1..=12).map(|number| any_call(&words, number, random)).collect() };
+    let lines = [calls(), formats.to_vec(), calls()].concat();
+    for line in lines {
+        result = result.and_then(|()| perform(&mut proved, &mut words, &line, tally));
+    }
+    result.map_err(|text| format!("memory of {} words: {text}", words.len()))
 }

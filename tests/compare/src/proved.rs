@@ -3,11 +3,27 @@
 use second::calls::Answer;
 use tumashqin::{Edition, Memory, Refusal};
 
+extern "C" {
+    fn tumashqin_format(words: *mut u32, length: usize, edition: u32) -> u32;
+}
+
+fn format(words: &mut [u32], edition: u32) -> Answer {
+    let edition = match edition {
+        0 => Edition::Pages256,
+        1 => Edition::Pages4096,
+        _ => {
+            // The binding has no such edition. The words' own pointer and length: the library asks no more.
+            let refusal = unsafe { tumashqin_format(words.as_mut_ptr(), words.len(), edition) };
+            return if refusal == 0 { Ok(0) } else { Err(refusal) };
+        }
+    };
+    Memory::format(words, edition).map(|_| 0).map_err(Refusal::number)
+}
+
 /// Performs a call by its number, 0 for format.
 pub fn call(words: &mut [u32], line: &[u32]) -> Answer {
     if let [0, edition] = *line {
-        let edition = if edition == 0 { Edition::Pages256 } else { Edition::Pages4096 };
-        return Memory::format(words, edition).map(|_| 0).map_err(Refusal::number);
+        return format(words, edition);
     }
     let mut memory = Memory::over(words);
     let answer = match *line {

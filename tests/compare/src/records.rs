@@ -14,7 +14,7 @@ pub fn compare(words: &mut [u32], random: &mut Random, tally: &mut Tally) -> Res
     let (given, mut out) = (bytes(REVISION, random), bytes(LENGTH, random));
     let mut expected = out.clone();
     let answer = write(words, &given, &mut expected);
-    tally.cover.count(WRITER, answer);
+    tally.of(words).cover.count(WRITER, answer);
     let said = proved::write_record(words, &given, &mut out);
     if (said, &out) != (answer, &expected) {
         return Err(format!("record of {given:?}:\n  proved {said:?} {out:?}\n  second {answer:?} {expected:?}"));
@@ -27,7 +27,7 @@ pub fn compare(words: &mut [u32], random: &mut Random, tally: &mut Tally) -> Res
         }
     }
     let (said, extent) = (proved_reading(&out), read(&out));
-    tally.cover.count(READER, extent.answer);
+    tally.of(words).cover.count(READER, extent.answer);
     let expected = (extent.answer, extent.begin, extent.end, revision(&out));
     (said == expected).then_some(()).ok_or(format!("record {out:?} read:\n  proved {said:?}\n  second {expected:?}"))
 }

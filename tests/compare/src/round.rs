@@ -12,40 +12,134 @@ use second::refusal::DEPTH;
 /// Guided calls of a round's sequence.
 pub const CALLS: usize = 2000;
 
-/// All of a round follows from its seed; seeds in a row go through all page counts. With a flip one bit of the
-/// proved kernel's memory is changed after the call of that index.
+/// Words of 256 small pages, and of 16 large ones: here format may choose either edition.
+const BOTH: usize = 16_384;
+
+/// Counts of large pages that have to occur: the least ones, and in short sequences those where T changes and the most.
+pub const FEW: [usize; 2] = [16, 17];
+pub const MANY: [usize; 7] = [1_032, 1_033, 2_059, 2_060, 3_086, 3_087, 4_096];
+
+/// All of a round follows from its seed; seeds in a row have either edition in turn. With a flip one bit of the proved
+/// kernel's memory is changed after the call of that index.
 pub fn round(seed: u32, flip: Option<usize>, tally: &mut Tally) -> Result<(), String> {
-    let pages = LEAST_PAGES + seed as usize * 89 % (MOST_PAGES - LEAST_PAGES + 1);
+    let (edition, turn) = (EDITIONS[seed as usize % 2], seed as usize / 2);
+    let small = small_pages(turn);
+    let pages = if edition == SMALL { small } else { large_pages(turn) };
     let mut random = Random::new(seed);
-    let done = memories::other_length(&mut random, tally)
-        .and_then(|()| memories::any_words(pages, &mut random, tally))
-        .and_then(|()| sequence(pages, Random::new(!seed), flip, &mut random, tally))
-        .and_then(|()| scripts::compare(pages, &mut random, tally));
-    done.map_err(|text| format!("seed {seed}, {pages} pages, {text}"))
+    let mut done = memories::other_length(&mut random, tally)
+        .and_then(|()| memories::any_words(edition, pages, &mut random, tally))
+        .and_then(|()| sequence(edition, pages, Random::new(!seed), flip, &mut random, tally))
+        .and_then(|()| scripts::compare(small, &mut random, tally));
+    if edition == LARGE && turn.is_multiple_of(5) {
+        done = done.and_then(|()| many_pages(MANY[turn / 5 % MANY.len()], &mut random, tally));
+    }
+    done.map_err(|text| format!("seed {seed}, edition {}, {pages} pages, {text}", edition.number))
 }
 
+/// Goes through all page counts.
+fn small_pages(turn: usize) -> usize {
+    LEAST_PAGES + turn * 89 % (SMALL.most_pages() - LEAST_PAGES + 1)
+}
+
+/// Mostly few: the least number, some more for ten threes, and as many as eight levels take.
+fn large_pages(turn: usize) -> usize {
+    let more = turn / 4;
+    match turn % 4 {
+        0 => LEAST_PAGES,
+        1 => LEAST_PAGES + 1 + more % 32,
+        2 => 49 + more % 32,
+        _ => 81 + more % 32,
+    }
+}
+
+/// Guided calls from format. Where the length is that of both editions, format chooses anew from time to time.
 fn sequence(
+    mut edition: Edition,
     pages: usize,
     mut guiding: Random,
     flip: Option<usize>,
     random: &mut Random,
     tally: &mut Tally,
 ) -> Result<(), String> {
-    let mut second: Vec<u32> = (0..pages * PAGE_WORDS).map(|_| random.draw() as u32).collect();
+    let mut second: Vec<u32> = (0..pages * edition.page_words()).map(|_| random.draw() as u32).collect();
     let mut proved = second.clone();
-    perform(&mut proved, &mut second, &[0, 0], tally)?;
+    let both = second.len() == BOTH;
     let (mut index, mut result) = (0, Ok(()));
-    guide(&mut second, &mut guiding, CALLS, |line, answer, after| {
-        if result.is_err() {
-            return;
+    while index < CALLS && result.is_ok() {
+        perform(&mut proved, &mut second, &[0, edition.number], tally)?;
+        let count = if both { 50 + guiding.below(300) } else { CALLS };
+        guide(&mut second, &mut guiding, count.min(CALLS - index), |line, answer, after| {
+            if result.is_err() {
+                return;
+            }
+            let flip = (flip == Some(index)).then(|| (random.below(proved.len()), random.below(32)));
+            result = follow(&mut proved, line, answer, after, flip, tally)
+                .and_then(|()| between(&mut proved, line, answer, after, random, tally))
+                .map_err(|text| format!("call {index}: {text}"));
+            index += 1;
+        });
+        if edition == LARGE {
+            tally.sequence(pages_of(&second));
         }
-        let flip = (flip == Some(index)).then(|| (random.below(proved.len()), random.below(32)));
-        result = follow(&mut proved, line, answer, after, flip, tally)
-            .and_then(|()| between(&mut proved, line, answer, after, random, tally))
-            .map_err(|text| format!("call {index}: {text}"));
-        index += 1;
-    });
+        edition = EDITIONS[guiding.below(2)];
+    }
     result
+}
+
+/// A memory of many large pages: calls on the first and the last of them and at the last virtual page, a record, a changed memory, and a few guided calls.
+fn many_pages(pages: usize, random: &mut Random, tally: &mut Tally) -> Result<(), String> {
+    let mut second: Vec<u32> = (0..pages * LARGE.page_words()).map(|_| random.draw() as u32).collect();
+    let mut proved = second.clone();
+    let mut result = perform(&mut proved, &mut second, &[0, LARGE.number], tally);
+    for line in edge_calls(Sizes::of(&second).map_or(0, |sizes| sizes.free)) {
+        result = result.and_then(|()| perform(&mut proved, &mut second, &line, tally));
+    }
+    result = result.and_then(|()| records::compare(&mut proved, random, tally));
+    result = result.and_then(|()| memories::changed(&second, random, tally));
+    guide(&mut second, random, 12, |line, answer, after| {
+        if result.is_ok() {
+            result = follow(&mut proved, line, answer, after, None, tally);
+        }
+    });
+    tally.sequence(pages);
+    if pages == LARGE.most_pages() {
+        // One page more is too many, whatever the words are.
+        proved.resize((pages + 1) * LARGE.page_words(), 0);
+        result = result.and_then(|()| memories::each_call(proved, random, tally));
+    }
+    result.map_err(|text| format!("then {pages} pages: {text}"))
+}
+
+/// A child is made of the last pages that were handed to the root and ends; another one has two pages, at the last virtual page and before it.
+fn edge_calls(free: u32) -> Vec<Vec<u32>> {
+    let page = |k: u32| VPage(k).address(LARGE);
+    let (child, last) = (page(free), page(LARGE.virtual_pages() - 1));
+    let create: Vec<u32> = std::iter::once(1).chain((free - 4..=free).rev().map(page)).collect();
+    vec![
+        vec![8, page(free)],
+        vec![8, page(free + 1)],
+        create.clone(),
+        vec![2, child],
+        create,
+        vec![12, page(free - 5), page(free - 6)],
+        vec![12, page(free - 6), page(2)],
+        vec![6, child, last, page(free - 5)],
+        vec![3, page(1), child, last, 7],
+        vec![3, page(free - 7), child, last - page(1), 3],
+        vec![8, page(1)],
+        vec![12, page(free - 4), 1],
+        vec![9, child],
+        vec![12, u32::MAX - 3, 77],
+        vec![11, last - 4],
+        vec![10],
+        vec![11, page(2) - 4],
+        vec![4, child, last],
+        vec![7, child, last],
+    ]
+}
+
+fn pages_of(mem: &[u32]) -> usize {
+    mem.len() / Edition::of(mem).page_words()
 }
 
 /// What is compared after a call, on the memory that it left. No word changes by it.
@@ -66,5 +160,11 @@ fn between(
     if random.once_in(50) {
         (0..4).try_for_each(|_| records::compare(proved, random, tally))?;
     }
-    (proved == second).then_some(()).ok_or("a record changed the memory".to_string())
+    if random.once_in(200) {
+        // An edition that the length does not have, or none.
+        let other = 1 - Edition::of(second).number;
+        let choice = random.pick(&[other, 2, 6, 10, u32::MAX]).filter(|_| second.len() != BOTH).unwrap_or(2);
+        perform(proved, &mut second.to_vec(), &[0, choice], tally)?;
+    }
+    (proved == second).then_some(()).ok_or("a record or a refused format changed the memory".to_string())
 }

@@ -1,6 +1,7 @@
 //! Scripts, good and bad, replayed by the proved program replay and by the second program.
 
 use crate::tally::Tally;
+use second::geometry::SMALL;
 use second::make::make;
 use second::random::Random;
 use second::replay::{replay, MOST_BYTES};
@@ -50,7 +51,7 @@ fn script(pages: usize, random: &mut Random) -> Vec<u8> {
     let gap = if random.once_in(3) { random.below(9) } else { 0 };
     let room = MOST_BYTES - gap - if random.once_in(2) { 0 } else { random.below(MOST_BYTES - HEADER - gap) };
     let (mut script, mut count) = (vec![0; HEADER + gap], 0u32);
-    for line in make(random.draw() as u32, 400, pages).iter().filter(|line| line[0] != 0) {
+    for line in make(SMALL, random.draw() as u32, 400, pages).iter().filter(|line| line[0] != 0) {
         if script.len() + 4 * line.len() > room {
             break;
         }

@@ -1,79 +1,158 @@
 //! What was compared so far.
 
+use crate::round::{FEW, MANY};
 use crate::scripts;
 use crate::ways::Ways;
+use second::calls::Answer;
 use second::cover::Cover;
+use second::geometry::{Edition, EDITIONS};
+use std::collections::BTreeMap;
 use std::fmt;
+
+const NONE: usize = EDITIONS.len();
+
+/// What was compared on memories of one edition, or on those whose header names none.
+#[derive(Default)]
+pub struct Part {
+    /// Format stands with the edition that it is to choose.
+    pub cover: Cover,
+    /// Memories of other words by what they break: nothing, each sentence alone, more than one.
+    judged: [u64; 11],
+    /// Those of them whose header named the other edition before.
+    pub from_the_other: u64,
+    /// Verdicts of sound memories, and of others.
+    pub verdicts: [u64; 2],
+}
 
 #[derive(Default)]
 pub struct Tally {
-    pub cover: Cover,
-    pub ways: Ways,
-    /// Changed memories by what they break: nothing, each sentence alone, more than one.
-    pub sound: u64,
-    pub alone: [u64; 9],
-    pub several: u64,
-    /// Verdicts of sound memories, and of others.
-    pub verdicts: [u64; 2],
+    /// By the edition's number, and for none.
+    parts: [Part; NONE + 1],
+    ways: Ways,
+    /// Sequences of the large edition by page count.
+    sequences: BTreeMap<usize, u64>,
     /// Scripts replayed by both, good and bad ones.
     pub good_scripts: u64,
     pub bad_scripts: u64,
 }
 
-impl Tally {
+fn add(own: &mut [u64], other: &[u64]) {
+    own.iter_mut().zip(other).for_each(|(own, other)| *own += other);
+}
+
+impl Part {
     pub fn judged(&mut self, broken: &[u32]) {
-        match *broken {
-            [] => self.sound += 1,
-            [sentence] => self.alone[sentence as usize - 1] += 1,
-            _ => self.several += 1,
-        }
+        let place = match *broken {
+            [] => 0,
+            [sentence] => sentence as usize,
+            _ => 10,
+        };
+        self.judged[place] += 1;
+    }
+
+    fn add(&mut self, other: &Part) {
+        self.cover.add(&other.cover);
+        add(&mut self.judged, &other.judged);
+        add(&mut self.verdicts, &other.verdicts);
+        self.from_the_other += other.from_the_other;
+    }
+
+    /// What has to occur on memories of an edition, and did not.
+    fn missing(&self) -> Vec<String> {
+        let mut missing = self.cover.missing();
+        let sentences = (1..10).filter(|&sentence| self.judged[sentence] == 0);
+        missing.extend(sentences.map(|sentence| format!("sentence {sentence} broken alone")));
+        let verdicts = [0, 1].into_iter().filter(|&verdict| self.verdicts[verdict] == 0);
+        missing.extend(verdicts.map(|verdict| format!("verdict {verdict}")));
+        missing.extend((self.from_the_other == 0).then(|| "a memory of the other edition".to_string()));
+        missing
+    }
+
+    /// What has to occur where the header names no edition, or format chooses none: everything is refused.
+    fn missing_refusals(&self) -> Vec<String> {
+        let mut missing = self.cover.missing();
+        missing.retain(|answer| answer.ends_with(" no 1") || answer == "format no 2");
+        missing.extend((self.verdicts[1] == 0).then(|| "verdict 1".to_string()));
+        missing
+    }
+}
+
+impl Tally {
+    /// Where to count what is compared on a memory.
+    pub fn of(&mut self, mem: &[u32]) -> &mut Part {
+        &mut self.parts[Edition::named(mem).map_or(NONE, |edition| edition.number as usize)]
+    }
+
+    /// Counts a call with its answer, given the memory before it.
+    pub fn called(&mut self, mem: &[u32], line: &[u32], answer: Answer) {
+        let part = match *line {
+            [0, choice] => &mut self.parts[NONE.min(choice as usize)],
+            _ => self.of(mem),
+        };
+        part.cover.count(line[0] as usize, answer);
+        self.ways.count(mem, line, answer);
+    }
+
+    /// Counts a sequence of the large edition.
+    pub fn sequence(&mut self, pages: usize) {
+        *self.sequences.entry(pages).or_default() += 1;
     }
 
     pub fn add(&mut self, other: &Tally) {
-        self.cover.add(&other.cover);
+        self.parts.iter_mut().zip(&other.parts).for_each(|(own, other)| own.add(other));
         self.ways.add(&other.ways);
-        self.sound += other.sound;
-        self.several += other.several;
+        other.sequences.iter().for_each(|(&pages, count)| *self.sequences.entry(pages).or_default() += count);
         self.good_scripts += other.good_scripts;
         self.bad_scripts += other.bad_scripts;
-        for (own, other) in
-            self.alone.iter_mut().chain(&mut self.verdicts).zip(other.alone.iter().chain(&other.verdicts))
-        {
-            *own += other;
-        }
     }
 
     /// What has to occur and did not.
     pub fn missing(&self) -> Vec<String> {
-        let mut missing = self.cover.missing();
-        missing.extend(self.ways.each().filter(|way| way.1 == 0).map(|way| way.0.to_string()));
-        let alone = self.alone.iter().zip(1..).filter(|(&count, _)| count == 0);
-        missing.extend(alone.map(|(_, sentence)| format!("sentence {sentence} broken alone")));
-        let verdicts = self.verdicts.iter().zip([0, 1]).filter(|(&count, _)| count == 0);
-        missing.extend(verdicts.map(|(_, verdict)| format!("verdict {verdict}")));
+        let mut missing = self.ways.missing();
+        for (part, edition) in self.parts.iter().zip(EDITIONS) {
+            missing.extend(part.missing().into_iter().map(|what| format!("edition {}: {what}", edition.number)));
+        }
+        missing.extend(self.parts[NONE].missing_refusals().into_iter().map(|what| format!("no edition: {what}")));
+        let counts = FEW.into_iter().chain(MANY).filter(|pages| !self.sequences.contains_key(pages));
+        missing.extend(counts.map(|pages| format!("{pages} large pages")));
         missing
+    }
+}
+
+impl fmt::Display for Part {
+    fn fmt(&self, f: &mut fmt::Formatter) -> fmt::Result {
+        let (judged, [sound, alone @ .., several]) = (self.judged.iter().sum::<u64>(), self.judged);
+        writeln!(
+            f,
+            "{judged} memories of other words: {sound} sound, {several} break several sentences; {} were of the other edition",
+            self.from_the_other
+        )?;
+        let alone: Vec<_> = alone.iter().zip(1..).map(|(count, sentence)| format!("{sentence}: {count}")).collect();
+        writeln!(f, "sentences broken alone: {}", alone.join(", "))?;
+        let [sound, damaged] = self.verdicts;
+        writeln!(f, "{} verdicts: {sound} sound, {damaged} damaged", sound + damaged)
     }
 }
 
 impl fmt::Display for Tally {
     fn fmt(&self, f: &mut fmt::Formatter) -> fmt::Result {
-        let (calls, passed) = (self.cover.calls(), self.cover.passed());
+        let sum = |count: fn(&Cover) -> u64| self.parts.iter().map(|part| count(&part.cover)).sum::<u64>();
+        let (calls, passed) = (sum(Cover::calls), sum(Cover::passed));
         writeln!(f, "{calls} calls, {passed} of them passed: every answer and every word after each agrees")?;
-        writeln!(f, "{}\n", self.cover)?;
-        for (name, count) in self.ways.each() {
-            writeln!(f, "{count:9}  {name}")?;
+        for (part, edition) in self.parts.iter().zip(EDITIONS) {
+            let (number, bytes) = (edition.number, edition.page_bytes());
+            writeln!(f, "\nEdition {number}, pages of {bytes} bytes: {} calls", part.cover.calls())?;
+            write!(f, "{}\n\n{part}", part.cover)?;
         }
-        let judged = self.sound + self.several + self.alone.iter().sum::<u64>();
+        let Part { cover, verdicts: [sound, damaged], .. } = &self.parts[NONE];
+        let (calls, passed) = (cover.calls(), cover.passed());
         writeln!(
             f,
-            "\n{judged} memories of other words: {} sound, {} break several sentences",
-            self.sound, self.several
+            "\nNo edition named or chosen: {calls} calls, {passed} passed; verdicts: {sound} sound, {damaged} damaged"
         )?;
-        let alone: Vec<_> =
-            self.alone.iter().zip(1..).map(|(count, sentence)| format!("{sentence}: {count}")).collect();
-        writeln!(f, "sentences broken alone: {}", alone.join(", "))?;
-        let [sound, damaged] = self.verdicts;
-        writeln!(f, "{} verdicts: {sound} sound, {damaged} damaged", sound + damaged)?;
+        writeln!(f, "\n{}", self.ways)?;
+        let sequences: Vec<_> = self.sequences.iter().map(|(pages, count)| format!("{pages}: {count}")).collect();
+        writeln!(f, "sequences by the number of large pages: {}", sequences.join(", "))?;
         if !scripts::built() {
             writeln!(f, "no scripts: target/bin/replay is not built (rt check replay)")?;
         }

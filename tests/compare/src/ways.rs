@@ -4,11 +4,14 @@ use second::calls::{follow_chain, Answer};
 use second::geometry::*;
 use second::memory::{word, Mapping, Partition, IS_CHILD};
 use second::refusal::*;
+use second::sound::sound;
 use second::tree::tree;
+use std::fmt;
 
 /// A call, its answer and the memory before it.
 struct Look<'a> {
     mem: &'a [u32],
+    edition: Edition,
     line: &'a [u32],
     answer: Answer,
     caller: Partition,
@@ -18,16 +21,29 @@ struct Look<'a> {
 
 type Way = (&'static str, fn(&Look) -> bool);
 
-const WAYS: [Way; 23] = [
-    ("any call no 3: 2^20 or above", |l| l.address(|address| u64::from(address) >= virtual_end())),
-    ("any call no 3: on page 0", |l| l.address(|address| address < page_bytes())),
+/// With large pages no address is too large.
+const TOO_LARGE: &str = "any call no 3: 2^20 or above";
+
+const WAYS: [Way; 30] = [
+    ("format ok: over a sound memory of the other edition", |l| {
+        l.ok(0) && l.line[1] != l.edition.number && sound(l.mem).is_ok()
+    }),
+    ("format no 2: a length of the other edition", |l| {
+        l.no(0, SIZE) && l.line[1] < 2 && Sizes::of_length(EDITIONS[1 - l.line[1] as usize], l.mem.len()).is_some()
+    }),
+    (TOO_LARGE, |l| l.address(|address| u64::from(address) >= l.edition.virtual_end())),
+    ("any call no 3: on page 0", |l| l.address(|address| address < l.edition.page_bytes())),
     ("any call no 3: not a multiple", |l| l.address(|address| address % l.multiple() != 0)),
     ("createPartition ok: the child is 8 below the root", |l| l.ok(1) && l.depth() == MOST_DEPTH - 1),
+    ("createPartition ok: the last virtual page", |l| l.ok(1) && l.line[1..].contains(&l.last())),
     ("deletePartition ok: the child has children", |l| l.ok(2) && l.child().is_some_and(|c| has_children(l.mem, &c))),
     ("addVAddr no 6: a number above 7", |l| l.no(3, RIGHTS) && l.line[4] > ALL_RIGHTS),
     ("addVAddr no 6: a right not held", |l| l.no(3, RIGHTS) && l.line[4] <= ALL_RIGHTS),
+    ("addVAddr ok: at the last virtual page", |l| l.ok(3) && l.line[3] == l.last()),
     ("removeVAddr no 7: lent on by the child", |l| l.no(4, HAND) && l.target().is_some_and(|m| m.accessible)),
     ("removeVAddr no 7: taken by the child", |l| l.no(4, HAND) && l.target().is_some_and(|m| !m.accessible)),
+    ("prepare ok: the last directory index", |l| l.ok(6) && l.line[2] >= l.last_table()),
+    ("prepare ok: the last virtual page as a link", |l| l.ok(6) && l.line[3] != l.last() && l.links_last()),
     ("prepare ok: the tenth three", |l| l.ok(6) && l.threes() == MOST_THREES - 1),
     ("prepare ok: room and chain of the collect just before", |l| {
         l.ok(6) && l.collected == Some([l.line[1], l.line[3]])
@@ -44,6 +60,7 @@ const WAYS: [Way; 23] = [
     ("prepare no 11: chain too long", |l| l.stops(CHAIN, 3)),
     ("mappedInChild ok: 0 for a child's kernel page", |l| l.answer == Ok(0) && l.closed()),
     ("mappedInChild ok: a lent page that is inaccessible", |l| l.answer != Ok(0) && l.closed()),
+    ("load or store ok: on the last virtual page", |l| (l.ok(11) || l.ok(12)) && l.line[1] >= l.last()),
 ];
 
 impl Look<'_> {
@@ -68,8 +85,18 @@ impl Look<'_> {
         if matches!(self.line[0], 11 | 12) {
             4
         } else {
-            page_bytes()
+            self.edition.page_bytes()
         }
+    }
+
+    /// The address of the last virtual page.
+    fn last(&self) -> u32 {
+        VPage(self.edition.virtual_pages() - 1).address(self.edition)
+    }
+
+    /// The first address of the last directory index.
+    fn last_table(&self) -> u32 {
+        VPage::at(self.edition, self.edition.page_words() - 1, 0).address(self.edition)
     }
 
     fn depth(&self) -> usize {
@@ -78,7 +105,7 @@ impl Look<'_> {
 
     /// The child that the first argument names.
     fn child(&self) -> Option<Partition> {
-        let mapping = self.caller.mapping(self.mem, VPage::of(self.line[1]))?;
+        let mapping = self.caller.mapping(self.mem, VPage::of(self.edition, self.line[1]))?;
         Some(Partition::at(self.mem, mapping.page))
     }
 
@@ -88,7 +115,7 @@ impl Look<'_> {
 
     /// What the child has at the second argument.
     fn target(&self) -> Option<Mapping> {
-        self.child()?.mapping(self.mem, VPage::of(self.line[2]))
+        self.child()?.mapping(self.mem, VPage::of(self.edition, self.line[2]))
     }
 
     /// Prepare is refused so after so many pages of its chain have passed.
@@ -107,12 +134,17 @@ impl Look<'_> {
     fn again(&self) -> bool {
         let chain = self.chain();
         let link = chain.last().map_or(0, |&(_, page)| word(self.mem, page, 0));
-        chain.iter().any(|(v, _)| v.address() == link)
+        chain.iter().any(|(v, _)| v.address(self.edition) == link)
+    }
+
+    /// Whether the last virtual page is in prepare's chain.
+    fn links_last(&self) -> bool {
+        self.chain().iter().any(|(v, _)| v.address(self.edition) == self.last())
     }
 
     /// Mapped in child answers for an inaccessible page.
     fn closed(&self) -> bool {
-        let mapping = self.ok(8).then(|| self.caller.mapping(self.mem, VPage::of(self.line[1])));
+        let mapping = self.ok(8).then(|| self.caller.mapping(self.mem, VPage::of(self.edition, self.line[1])));
         mapping.flatten().is_some_and(|m| !m.accessible)
     }
 }
@@ -123,7 +155,8 @@ fn has_children(mem: &[u32], partition: &Partition) -> bool {
 
 #[derive(Default)]
 pub struct Ways {
-    counts: [u64; WAYS.len()],
+    /// By the memory's edition; format's by the one that it is to choose.
+    counts: [[u64; WAYS.len()]; EDITIONS.len()],
     collected: Option<[u32; 2]>,
 }
 
@@ -131,11 +164,14 @@ impl Ways {
     /// Counts a call with its answer, given the memory before it.
     pub fn count(&mut self, mem: &[u32], line: &[u32], answer: Answer) {
         let collected = self.collected.take();
-        if matches!(answer, Err(DAMAGED | SIZE)) {
-            return;
-        }
-        let look = Look { mem, line, answer, caller: Partition::current(mem), collected };
-        for (count, (_, holds)) in self.counts.iter_mut().zip(WAYS) {
+        let edition = Edition::of(mem);
+        let counts = match *line {
+            [0, choice] => self.counts.get_mut(choice as usize),
+            _ => self.counts.get_mut(edition.number as usize),
+        };
+        let Some(counts) = counts.filter(|_| answer != Err(DAMAGED)) else { return };
+        let look = Look { mem, edition, line, answer, caller: Partition::current(mem), collected };
+        for (count, (_, holds)) in counts.iter_mut().zip(WAYS) {
             *count += u64::from(holds(&look));
         }
         if let (&[7, child, _], Ok(first)) = (line, answer) {
@@ -144,13 +180,29 @@ impl Ways {
     }
 
     pub fn add(&mut self, other: &Ways) {
-        for (own, other) in self.counts.iter_mut().zip(other.counts) {
+        for (own, other) in self.counts.iter_mut().flatten().zip(other.counts.iter().flatten()) {
             *own += other;
         }
     }
 
-    /// Each way and how often it was met.
-    pub fn each(&self) -> impl Iterator<Item = (&'static str, u64)> {
-        WAYS.into_iter().map(|way| way.0).zip(self.counts)
+    /// Each way with how often it was met, by edition.
+    fn each(&self) -> impl Iterator<Item = (&'static str, [u64; EDITIONS.len()])> + '_ {
+        WAYS.iter().enumerate().map(|(place, way)| (way.0, self.counts.map(|counts| counts[place])))
+    }
+
+    /// What was not met.
+    pub fn missing(&self) -> Vec<String> {
+        let all = self.each().flat_map(|(name, counts)| EDITIONS.map(|edition| (name, edition, counts)));
+        let not_met = all.filter(|&(name, edition, counts)| {
+            counts[edition.number as usize] == 0 && (name, edition) != (TOO_LARGE, LARGE)
+        });
+        not_met.map(|(name, edition, _)| format!("edition {}: {name}", edition.number)).collect()
+    }
+}
+
+impl fmt::Display for Ways {
+    fn fmt(&self, f: &mut fmt::Formatter) -> fmt::Result {
+        writeln!(f, "edition 0        1")?;
+        self.each().try_for_each(|(name, [small, large])| writeln!(f, "{small:9}{large:9}  {name}"))
     }
 }
