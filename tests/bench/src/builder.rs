@@ -37,7 +37,7 @@ impl Builder {
             steps: Vec::new(),
             hands: vec![(1..=flat).rev().map(|v| 256 * v).collect()],
         };
-        built.call(0, &[]);
+        built.call(0, &[0]);
         built
     }
 

@@ -1,9 +1,9 @@
 //! A call by its number and arguments, made in either version.
 
-use crate::ordinary::{self, Answer};
+use crate::ordinary::{self, Answer, Pages};
 use tumashqin::{Edition, Memory, Refusal};
 
-/// By number; format has none, and stands at 0.
+/// By number; format has none, and stands at 0. Its argument is the edition.
 pub const NAMES: [&str; 13] = [
     "format",
     "createPartition",
@@ -40,29 +40,49 @@ impl Call {
     }
 
     pub fn ordinary(&self, words: &mut [u32]) -> Answer {
+        if self.number == 0 {
+            return ordinary::format(words, self.arguments[0]);
+        }
+        match Pages::of(words)? {
+            Pages::Small(pages) => self.on(ordinary::Memory::judged(pages)?),
+            Pages::Large(pages) => self.on(ordinary::Memory::judged(pages)?),
+        }
+    }
+
+    /// The ordinary version without the judgement, for memory that is known to be sound.
+    pub fn trusting(&self, words: &mut [u32]) -> Answer {
+        if self.number == 0 {
+            return ordinary::format(words, self.arguments[0]);
+        }
+        match Pages::of(words)? {
+            Pages::Small(pages) => self.on(ordinary::Memory::trusted(pages)),
+            Pages::Large(pages) => self.on(ordinary::Memory::trusted(pages)),
+        }
+    }
+
+    fn on<const W: usize>(&self, mut m: ordinary::Memory<W>) -> Answer {
         let [a, b, c, d, _] = self.arguments;
         match self.number {
-            0 => ordinary::format(words),
-            1 => ordinary::create_partition(words, self.arguments),
-            2 => ordinary::delete_partition(words, a),
-            3 => ordinary::add_vaddr(words, a, b, c, d),
-            4 => ordinary::remove_vaddr(words, a, b),
-            5 => ordinary::page_count(words, a, b),
-            6 => ordinary::prepare(words, a, b, c),
-            7 => ordinary::collect(words, a, b),
-            8 => ordinary::mapped_in_child(words, a),
-            9 => ordinary::enter(words, a),
-            10 => ordinary::leave(words),
-            11 => ordinary::load(words, a),
-            12 => ordinary::store(words, a, b),
-            _ => ordinary::verdict(words),
+            1 => ordinary::create_partition(&mut m, self.arguments),
+            2 => ordinary::delete_partition(&mut m, a),
+            3 => ordinary::add_vaddr(&mut m, a, b, c, d),
+            4 => ordinary::remove_vaddr(&mut m, a, b),
+            5 => ordinary::page_count(&m, a, b),
+            6 => ordinary::prepare(&mut m, a, b, c),
+            7 => ordinary::collect(&mut m, a, b),
+            8 => ordinary::mapped_in_child(&m, a),
+            9 => ordinary::enter(&mut m, a),
+            10 => ordinary::leave(&mut m),
+            11 => ordinary::load(&m, a),
+            12 => ordinary::store(&mut m, a, b),
+            _ => JUDGED_SOUND,
         }
     }
 
     pub fn proved(&self, words: &mut [u32]) -> Answer {
         let [a, b, c, d, _] = self.arguments;
         let mut memory = match self.number {
-            0 => return Memory::format(words, Edition::Pages256).map(|_| 0).map_err(Refusal::number),
+            0 => return Memory::format(words, edition(a)).map(|_| 0).map_err(Refusal::number),
             _ => Memory::over(words),
         };
         let answer = match self.number {
@@ -81,5 +101,13 @@ impl Call {
             _ => memory.verdict().map(|()| 0),
         };
         answer.map_err(Refusal::number)
+    }
+}
+
+/// The choices that the safe interface has.
+fn edition(number: u32) -> Edition {
+    match number {
+        0 => Edition::Pages256,
+        _ => Edition::Pages4096,
     }
 }

@@ -1,45 +1,58 @@
 //! The ordinary version and the proved kernel do what the independent program of tests/second does: on guided random calls, and on damaged memories.
 
 use bench::call::{Call, JUDGE, JUDGED_SOUND};
-use bench::ordinary::is_sound;
-use second::calls::call;
+use bench::library;
+use second::calls::{call, ARGUMENTS};
 use second::damage::wide_damage;
-use second::geometry::SMALL;
+use second::geometry::{Edition, EDITION, EDITIONS, LARGE, SMALL};
 use second::make::make;
 use second::random::Random;
 use second::sound::sound;
 
-const SIZES: [usize; 8] = [16, 20, 33, 72, 73, 120, 200, 256];
+/// Editions and numbers of pages, and for one call of the first how few are made.
+const SIZES: [(Edition, usize, usize); 11] = [
+    (SMALL, 16, 1),
+    (SMALL, 20, 1),
+    (SMALL, 33, 1),
+    (SMALL, 72, 1),
+    (SMALL, 73, 1),
+    (SMALL, 120, 1),
+    (SMALL, 200, 1),
+    (SMALL, 256, 1),
+    (LARGE, 16, 2),
+    (LARGE, 33, 6),
+    (LARGE, 73, 20),
+];
 
 /// Guided random calls on all three, with every word compared after each; then what the caller does with the memory.
-fn all(seed: u32, calls: usize, pages: usize, mut then: impl FnMut(&[u32])) {
-    let mut ordinary = vec![0; 64 * pages];
+fn all(edition: Edition, seed: u32, calls: usize, pages: usize, mut then: impl FnMut(&[u32])) {
+    let mut ordinary = vec![0; edition.page_words() * pages];
     let (mut proved, mut other) = (ordinary.clone(), ordinary.clone());
-    for line in std::iter::once(vec![0, SMALL.number]).chain(make(SMALL, seed, calls, pages)) {
+    for line in std::iter::once(vec![0, edition.number]).chain(make(edition, seed, calls, pages)) {
         let made = Call::new(line[0], &line[1..]);
         let answer = made.ordinary(&mut ordinary);
         assert_eq!(answer, made.proved(&mut proved), "{line:?}");
         assert_eq!(Some(answer), call(&mut other, line[0], &line[1..]), "{line:?}");
-        assert_eq!(ordinary, proved, "{line:?}");
-        assert_eq!(ordinary, other, "{line:?}");
+        assert!(ordinary == proved, "{line:?}");
+        assert!(ordinary == other, "{line:?}");
         then(&ordinary);
     }
 }
 
 #[test]
 fn calls() {
-    for (pages, seed) in SIZES.into_iter().zip(1..) {
-        all(seed, 6000, pages, |_| ());
+    for ((edition, pages, fewer), seed) in SIZES.into_iter().zip(1..) {
+        all(edition, seed, 6000 / fewer, pages, |_| ());
     }
 }
 
 #[test]
 fn verdicts_on_damaged_memories() {
     let mut random = Random::new(5);
-    let mut counts = [0; 2];
-    for (pages, seed) in SIZES.into_iter().zip(100..) {
+    let mut counts = [[0; 2]; 2];
+    for ((edition, pages, fewer), seed) in SIZES.into_iter().zip(100..) {
         let mut turn = 0;
-        all(seed, 3000, pages, |memory| {
+        all(edition, seed, 3000 / fewer, pages, |memory| {
             turn += 1;
             for _ in 0..if turn % 8 == 0 { 12 } else { 1 } {
                 let mut changed = memory.to_vec();
@@ -47,24 +60,46 @@ fn verdicts_on_damaged_memories() {
                     changed[index] = word;
                 }
                 let expected = sound(&changed).is_ok();
-                counts[usize::from(expected)] += 1;
-                assert_eq!(is_sound(&changed), expected);
-                assert_eq!(JUDGE.proved(&mut changed), if expected { JUDGED_SOUND } else { Err(1) });
+                counts[edition.number as usize][usize::from(expected)] += 1;
+                let answer = if expected { JUDGED_SOUND } else { Err(1) };
+                assert_eq!(JUDGE.ordinary(&mut changed), answer);
+                assert_eq!(JUDGE.proved(&mut changed), answer);
             }
         });
     }
-    assert!(counts[0] > 5000 && counts[1] > 500, "{counts:?}");
+    let [small, large] = counts;
+    assert!(small[0] > 5000 && small[1] > 500 && large[0] > 500 && large[1] > 50, "{counts:?}");
 }
 
+/// What is refused for its length, or for an edition that there is not: format with 2, all else with 1. No word changes.
 #[test]
-fn lengths_that_are_not_permitted() {
-    for length in [0, 1, 64 * 15, 64 * 16 - 1, 64 * 16 + 1, 64 * 257] {
-        let mut memory = vec![7; length];
-        for number in 0..=12 {
-            let refusal = if number == 0 { 2 } else { 1 };
-            assert_eq!(Call::new(number, &[]).ordinary(&mut memory), Err(refusal));
-            assert_eq!(Call::new(number, &[]).proved(&mut memory), Err(refusal));
+fn lengths_and_editions_that_are_not_permitted() {
+    for edition in EDITIONS {
+        let page = edition.page_words();
+        let lengths = [0, 1, EDITION, EDITION + 1, page * 15, page * 16 - 1, page * 16 + 1, page * (4 * page + 1)];
+        for length in lengths {
+            refused(edition.number, vec![7; length]);
+            let mut named = vec![7; length];
+            named.iter_mut().skip(EDITION).take(1).for_each(|word| *word = edition.number);
+            refused(edition.number, named);
         }
-        assert!(memory.iter().all(|&word| word == 7));
     }
+    for edition in [2, 3, 1 << 31, u32::MAX] {
+        for length in [64 * 16, 64 * 256, 1024 * 4096] {
+            let mut named = vec![0; length];
+            named[EDITION] = edition;
+            refused(edition, named);
+        }
+    }
+}
+
+fn refused(edition: u32, memory: Vec<u32>) {
+    let mut words = memory.clone();
+    for number in 0..=12 {
+        let arguments = vec![edition; if number == 0 { 1 } else { ARGUMENTS[number - 1] }];
+        let (call, refusal) = (Call::new(number as u32, &arguments), if number == 0 { 2 } else { 1 });
+        assert_eq!(call.ordinary(&mut words), Err(refusal));
+        assert_eq!(library::call(&call, &mut words).0, Err(refusal));
+    }
+    assert!(words == memory);
 }

@@ -5,43 +5,40 @@ use super::memory::*;
 use super::partition::pages_at;
 use super::refusal::*;
 
-pub fn add_vaddr(words: &mut [u32], page: u32, child: u32, target: u32, rights: u32) -> Answer {
-    let mut m = Memory::judged(words)?;
+pub fn add_vaddr<const W: usize>(m: &mut Memory<W>, page: u32, child: u32, target: u32, rights: u32) -> Answer {
     let [page, at, target] = pages_at([page, child, target])?;
     require(rights <= 7, RIGHTS)?;
     let caller = m.caller();
-    let child = caller.child(&m, at)?;
-    let word = caller.in_hand(&m, page)?;
+    let child = caller.child(m, at)?;
+    let word = caller.in_hand(m, page)?;
     require((4 * rights) & !word == 0, RIGHTS)?;
-    require(child.has_three(&m, target), TABLE)?;
-    require(child.mapping(&m, target) == 0, TAKEN)?;
+    require(child.has_three(m, target), TABLE)?;
+    require(child.mapping(m, target) == 0, TAKEN)?;
     m.set_table_word(child.directory, target, word & !RIGHTS_BITS | (4 * rights));
     m.set_table_word(child.shadow2, target, page.address());
     m.set_table_word(caller.shadow1, page, at.address());
     Ok(0)
 }
 
-pub fn remove_vaddr(words: &mut [u32], child: u32, target: u32) -> Answer {
-    let mut m = Memory::judged(words)?;
+pub fn remove_vaddr<const W: usize>(m: &mut Memory<W>, child: u32, target: u32) -> Answer {
     let [at, target] = pages_at([child, target])?;
     let caller = m.caller();
-    let child = caller.child(&m, at)?;
-    require(child.has_three(&m, target), TABLE)?;
-    require(child.mapping(&m, target) != 0, UNMAPPED)?;
-    child.in_hand(&m, target)?;
-    let lender = child.shadow2(&m, target);
+    let child = caller.child(m, at)?;
+    require(child.has_three(m, target), TABLE)?;
+    require(child.mapping(m, target) != 0, UNMAPPED)?;
+    child.in_hand(m, target)?;
+    let lender = child.shadow2(m, target);
     m.set_table_word(child.directory, target, 0);
     m.set_table_word(child.shadow2, target, 0);
     m.set_table_word(caller.shadow1, VPage::of(lender), 0);
     Ok(lender)
 }
 
-pub fn mapped_in_child(words: &mut [u32], page: u32) -> Answer {
-    let m = Memory::judged(words)?;
+pub fn mapped_in_child<const W: usize>(m: &Memory<W>, page: u32) -> Answer {
     let [page] = pages_at([page])?;
     let caller = m.caller();
-    require(caller.mapping(&m, page) != 0, UNMAPPED)?;
-    match caller.shadow1(&m, page) {
+    require(caller.mapping(m, page) != 0, UNMAPPED)?;
+    match caller.shadow1(m, page) {
         IS_CHILD => Ok(0),
         lent_to => Ok(lent_to),
     }

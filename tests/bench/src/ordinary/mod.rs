@@ -14,8 +14,8 @@ mod threes;
 
 pub use access::{enter, leave, load, store};
 pub use format::format;
-pub use judge::{is_sound, verdict};
 pub use lending::{add_vaddr, mapped_in_child, remove_vaddr};
 pub use making::{create_partition, delete_partition};
+pub use memory::{Memory, Pages};
 pub use refusal::Answer;
 pub use threes::{collect, page_count, prepare};

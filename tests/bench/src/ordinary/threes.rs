@@ -6,29 +6,27 @@ use super::moves::{give_back, take};
 use super::partition::{pages_at, Partition};
 use super::refusal::*;
 
-pub fn page_count(words: &mut [u32], child: u32, target: u32) -> Answer {
-    let m = Memory::judged(words)?;
+pub fn page_count<const W: usize>(m: &Memory<W>, child: u32, target: u32) -> Answer {
     let [at, target] = pages_at([child, target])?;
-    let child = m.caller().child(&m, at)?;
-    if child.has_three(&m, target) {
+    let child = m.caller().child(m, at)?;
+    if child.has_three(m, target) {
         return Ok(0);
     }
-    require(child.threes(&m) < MOST_THREES, LIST)?;
+    require(child.threes(m) < MOST_THREES, LIST)?;
     Ok(3)
 }
 
-pub fn prepare(words: &mut [u32], child: u32, target: u32, first: u32) -> Answer {
-    let mut m = Memory::judged(words)?;
+pub fn prepare<const W: usize>(m: &mut Memory<W>, child: u32, target: u32, first: u32) -> Answer {
     let [at, target, first] = pages_at([child, target, first])?;
     let caller = m.caller();
-    let child = caller.child(&m, at)?;
-    require(!child.has_three(&m, target), TAKEN)?;
-    require(child.threes(&m) < MOST_THREES, LIST)?;
-    let chain = follow_chain(&m, &caller, first)?;
+    let child = caller.child(m, at)?;
+    require(!child.has_three(m, target), TAKEN)?;
+    require(child.threes(m) < MOST_THREES, LIST)?;
+    let chain = follow_chain(m, &caller, first)?;
     let used = m.page(child.list)[0] as usize;
     let roots = [child.directory, child.shadow1, child.shadow2];
     for (k, (root, (v, page))) in roots.into_iter().zip(chain).enumerate() {
-        take(&mut m, &caller, v);
+        take(m, &caller, v);
         m.page_mut(root)[target.directory_index()] = page.address() + PRESENT;
         m.page_mut(child.list)[used + 2 * k] = v.address();
         m.page_mut(child.list)[used + 2 * k + 1] = page.address();
@@ -37,13 +35,16 @@ pub fn prepare(words: &mut [u32], child: u32, target: u32, first: u32) -> Answer
     Ok(0)
 }
 
+type Chain<const W: usize> = [(VPage<W>, PPage<W>); 3];
+
 /// The three chained pages. A page's own link is read only after the page has passed.
-fn follow_chain(m: &Memory, caller: &Partition, first: VPage) -> Result<[(VPage, PPage); 3], u32> {
+fn follow_chain<const W: usize>(m: &Memory<W>, caller: &Partition<W>, first: VPage<W>) -> Result<Chain<W>, u32> {
     let mut chain = [(VPage(0), PPage(0)); 3];
     let mut link = first.address();
     for k in 0..3 {
         let v = VPage::of(link);
-        require(good_address(link, PAGE_BYTES) && chain[..k].iter().all(|earlier| earlier.0 != v), CHAIN)?;
+        let good = good_address::<W>(link, page_bytes::<W>());
+        require(good && chain[..k].iter().all(|earlier| earlier.0 != v), CHAIN)?;
         let word = caller.in_hand(m, v)?;
         require(!word & (READ | WRITE) == 0, RIGHTS)?;
         chain[k] = (v, PPage::of(word));
@@ -53,21 +54,20 @@ fn follow_chain(m: &Memory, caller: &Partition, first: VPage) -> Result<[(VPage,
     Ok(chain)
 }
 
-pub fn collect(words: &mut [u32], child: u32, target: u32) -> Answer {
-    let mut m = Memory::judged(words)?;
+pub fn collect<const W: usize>(m: &mut Memory<W>, child: u32, target: u32) -> Answer {
     let [at, target] = pages_at([child, target])?;
     let caller = m.caller();
-    let child = caller.child(&m, at)?;
+    let child = caller.child(m, at)?;
     let index = target.directory_index();
     let link = m.page(child.directory)[index];
     require(link != 0, TABLE)?;
-    require(*m.page(PPage::of(link)) == [0; PAGE_WORDS], FULL_TABLE)?;
+    require(*m.page(PPage::of(link)) == [0; W], FULL_TABLE)?;
     for root in [child.directory, child.shadow1, child.shadow2] {
         m.page_mut(root)[index] = 0;
     }
-    let three = drop_three(m.page_mut(child.list), link & FRAME);
+    let three = drop_three(m.page_mut(child.list), link & frame::<W>());
     for [v, _] in three {
-        give_back(&mut m, &caller, VPage::of(v));
+        give_back(m, &caller, VPage::of(v));
     }
     m.page_mut(PPage::of(three[0][1]))[0] = three[1][0];
     m.page_mut(PPage::of(three[1][1]))[0] = three[2][0];
@@ -75,7 +75,7 @@ pub fn collect(words: &mut [u32], child: u32, target: u32) -> Answer {
 }
 
 /// Drops from a list the three with this page table, and answers its pairs; later pairs move down.
-fn drop_three(list: &mut Page, table: u32) -> [[u32; 2]; 3] {
+fn drop_three(list: &mut [u32], table: u32) -> [[u32; 2]; 3] {
     let used = list[0] as usize;
     let mut at = 1;
     while list[at + 1] != table {

@@ -7,9 +7,9 @@ use super::walk::{Counts, Walk};
 use super::{sound, Judged};
 
 /// What is counted along the rows of tables of a partition.
-pub struct Row<'a, 'b> {
-    pub own: &'b View<'a>,
-    pub parent: Option<&'b View<'a>>,
+pub struct Row<'a, 'b, const W: usize> {
+    pub own: &'b View<'a, W>,
+    pub parent: Option<&'b View<'a, W>>,
     pub depth: u32,
     pub mapped: u32,
     pub lent: u32,
@@ -17,19 +17,19 @@ pub struct Row<'a, 'b> {
     pub children: Counts,
 }
 
-impl<'a> Row<'a, '_> {
+impl<'a, const W: usize> Row<'a, '_, W> {
     /// The tables at one directory index.
-    pub fn judge(&mut self, walk: &mut Walk<'a>, index: usize, links: [u32; 3]) -> Judged {
-        let [table, shadow1, shadow2] = links.map(|link| walk.pages.get((link / PAGE_BYTES) as usize));
+    pub fn judge(&mut self, walk: &mut Walk<'a, W>, index: usize, links: [u32; 3]) -> Judged {
+        let [table, shadow1, shadow2] = links.map(|link| walk.pages.get((link / page_bytes::<W>()) as usize));
         let (table, shadow1, shadow2) = (table?, shadow1?, shadow2?);
-        for j in 0..PAGE_WORDS {
+        for j in 0..W {
             let (word, lent_to, above) = (table[j], shadow1[j], shadow2[j]);
             if word == 0 {
                 sound(lent_to | above == 0)?;
                 continue;
             }
-            let v = VPage((index * PAGE_WORDS + j) as u32);
-            sound(v != VPage(0) && word & !(FRAME | RIGHTS_BITS | ACCESSIBLE) == PRESENT)?;
+            let v = VPage((index * W + j) as u32);
+            sound(v != VPage(0) && word & !(frame::<W>() | RIGHTS_BITS | ACCESSIBLE) == PRESENT)?;
             self.origin(walk, v, word, above)?;
             self.use_of(walk, v, word, lent_to)?;
             self.mapped += 1;
@@ -38,10 +38,10 @@ impl<'a> Row<'a, '_> {
     }
 
     /// The root maps the flat pages; each mapping of a child comes from its parent, with no right added.
-    fn origin(&self, walk: &Walk, v: VPage, word: u32, above: u32) -> Judged {
+    fn origin(&self, walk: &Walk<W>, v: VPage<W>, word: u32, above: u32) -> Judged {
         let Some(parent) = self.parent else {
             let page = walk.sizes.first_flat().0 + v.0 - 1;
-            let flat = v.0 <= walk.sizes.flat && word / PAGE_BYTES == page && word & RIGHTS_BITS == RIGHTS_BITS;
+            let flat = v.0 <= walk.sizes.flat && word / page_bytes::<W>() == page && word & RIGHTS_BITS == RIGHTS_BITS;
             return sound(flat && above == 0);
         };
         let (lender, lent_to) = parent.lookup(above)?;
@@ -49,7 +49,7 @@ impl<'a> Row<'a, '_> {
     }
 
     /// In hand, a child's kernel page, a child's descriptor, or lent to a child.
-    fn use_of(&mut self, walk: &mut Walk<'a>, v: VPage, word: u32, lent_to: u32) -> Judged {
+    fn use_of(&mut self, walk: &mut Walk<'a, W>, v: VPage<W>, word: u32, lent_to: u32) -> Judged {
         match lent_to {
             0 if word & ACCESSIBLE != 0 => walk.mark(word)?,
             0 => self.shut += 1,
@@ -65,8 +65,8 @@ impl<'a> Row<'a, '_> {
         Some(())
     }
 
-    fn child(&mut self, walk: &mut Walk<'a>, v: VPage, word: u32) -> Judged {
-        let child = View::at(walk.pages, word & FRAME, v.address())?;
+    fn child(&mut self, walk: &mut Walk<'a, W>, v: VPage<W>, word: u32) -> Judged {
+        let child = View::at(walk.pages, word & frame::<W>(), v.address())?;
         sound(child.descriptor[..2] == [child.place, child.address] && child.descriptor[PARENT] == self.own.address)?;
         let counts = walk.partition(&child, Some(self.own), self.depth + 1)?;
         self.children.mapped += counts.mapped;

@@ -7,7 +7,7 @@ mod walk;
 use super::address::*;
 use super::format::*;
 use super::memory::*;
-use super::refusal::{require, Answer, DAMAGED};
+use super::partition::Partition;
 use view::View;
 use walk::Walk;
 
@@ -18,20 +18,14 @@ fn sound(holds: bool) -> Judged {
     holds.then_some(())
 }
 
-pub fn is_sound(words: &[u32]) -> bool {
-    judged(words).is_some()
+/// The pages are those of the edition that the header names.
+pub fn is_sound<const W: usize>(pages: &[Page<W>]) -> bool {
+    judged(pages).is_some()
 }
 
-/// The judgement alone.
-pub fn verdict(words: &[u32]) -> Answer {
-    require(is_sound(words), DAMAGED).map(|()| 0)
-}
-
-fn judged(words: &[u32]) -> Judged {
-    let (pages, rest) = words.as_chunks::<PAGE_WORDS>();
-    sound(rest.is_empty())?;
+fn judged<const W: usize>(pages: &[Page<W>]) -> Judged {
     let sizes = Sizes::of(pages.len())?;
-    sound(pages[0][..4] == header(sizes) && is_zero(&pages[0][CURRENT + 1..]))?;
+    sound(pages[0][..4] == header(sizes) && is_zero(&pages[0][EDITION + 1..]))?;
     let five = [
         root_descriptor(),
         root_directory(sizes, 0),
@@ -41,7 +35,7 @@ fn judged(words: &[u32]) -> Judged {
     ];
     sound(pages[1..6] == five)?;
     let mut walk = Walk::new(pages, sizes);
-    let root = View::at(pages, ROOT_PAGE.address(), 0)?;
+    let root = View::at(pages, Partition::<W>::ROOT_PAGE.address(), 0)?;
     let seen = walk.partition(&root, None, 0)?;
     sound(seen.mapped == sizes.flat && walk.all_used() && walk.current_met)
 }
@@ -50,6 +44,6 @@ fn is_zero(words: &[u32]) -> bool {
     words.iter().all(|&word| word == 0)
 }
 
-fn is_virtual(address: u32) -> bool {
-    address < VIRTUAL_END && address.is_multiple_of(PAGE_BYTES)
+fn is_virtual<const W: usize>(address: u32) -> bool {
+    address <= last_address::<W>() && address.is_multiple_of(page_bytes::<W>())
 }

@@ -4,27 +4,27 @@ use super::super::address::*;
 use super::super::memory::*;
 use super::{is_virtual, is_zero, sound};
 
-pub struct View<'a> {
-    pages: &'a [Page],
+pub struct View<'a, const W: usize> {
+    pages: &'a [Page<W>],
     /// The descriptor's physical address, and its virtual address in the parent.
     pub address: u32,
     pub place: u32,
-    pub descriptor: &'a Page,
-    pub directory: &'a Page,
-    pub shadow1: &'a Page,
-    pub shadow2: &'a Page,
-    pub list: &'a Page,
+    pub descriptor: &'a Page<W>,
+    pub directory: &'a Page<W>,
+    pub shadow1: &'a Page<W>,
+    pub shadow2: &'a Page<W>,
+    pub list: &'a Page<W>,
 }
 
 /// The page at an address, where it is one of the memory's.
-fn page_at(pages: &[Page], address: u32) -> Option<&Page> {
-    sound(address.is_multiple_of(PAGE_BYTES))?;
-    pages.get((address / PAGE_BYTES) as usize)
+fn page_at<const W: usize>(pages: &[Page<W>], address: u32) -> Option<&Page<W>> {
+    sound(address.is_multiple_of(page_bytes::<W>()))?;
+    pages.get((address / page_bytes::<W>()) as usize)
 }
 
-impl<'a> View<'a> {
+impl<'a, const W: usize> View<'a, W> {
     /// The partition whose descriptor is at an address, if its descriptor and list have their forms.
-    pub fn at(pages: &'a [Page], address: u32, place: u32) -> Option<View<'a>> {
+    pub fn at(pages: &'a [Page<W>], address: u32, place: u32) -> Option<View<'a, W>> {
         let descriptor = page_at(pages, address)?;
         let list = page_at(pages, descriptor[9])?;
         let used = list[0];
@@ -60,11 +60,11 @@ impl<'a> View<'a> {
 
     /// The page table word and the shadow 1 word at a virtual address, both 0 where there is no table.
     pub fn lookup(&self, address: u32) -> Option<(u32, u32)> {
-        sound(is_virtual(address))?;
-        let v = VPage::of(address);
-        let word = |root: &Page| match root[v.directory_index()] {
+        sound(is_virtual::<W>(address))?;
+        let v = VPage::<W>::of(address);
+        let word = |root: &Page<W>| match root[v.directory_index()] {
             0 => Some(0),
-            link => Some(self.pages.get((link / PAGE_BYTES) as usize)?[v.table_index()]),
+            link => Some(self.pages.get((link / page_bytes::<W>()) as usize)?[v.table_index()]),
         };
         Some((word(self.directory)?, word(self.shadow1)?))
     }

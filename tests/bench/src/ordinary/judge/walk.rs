@@ -6,10 +6,11 @@ use super::cells::Row;
 use super::view::View;
 use super::{sound, Judged};
 
-pub struct Walk<'a> {
-    pub pages: &'a [Page],
-    pub sizes: Sizes,
-    used: [bool; MOST_PAGES],
+pub struct Walk<'a, const W: usize> {
+    pub pages: &'a [Page<W>],
+    pub sizes: Sizes<W>,
+    /// A mark for each of as many pages as there can be, four times W.
+    used: [[bool; W]; 4],
     pub current_met: bool,
 }
 
@@ -20,25 +21,26 @@ pub struct Counts {
     pub kernel: u32,
 }
 
-impl<'a> Walk<'a> {
-    pub fn new(pages: &'a [Page], sizes: Sizes) -> Walk<'a> {
-        let mut used = [false; MOST_PAGES];
-        used[0] = true;
+impl<'a, const W: usize> Walk<'a, W> {
+    pub fn new(pages: &'a [Page<W>], sizes: Sizes<W>) -> Walk<'a, W> {
+        let mut used = [[false; W]; 4];
+        used[0][0] = true;
         Walk { pages, sizes, used, current_met: false }
     }
 
     /// Marks the page that a word names, unless it has its mark.
     pub fn mark(&mut self, word: u32) -> Judged {
-        let page = (word / PAGE_BYTES) as usize;
-        sound(page < self.pages.len() && !std::mem::replace(self.used.get_mut(page)?, true))
+        let page = (word / page_bytes::<W>()) as usize;
+        let used = self.used.as_flattened_mut();
+        sound(page < self.pages.len() && !std::mem::replace(used.get_mut(page)?, true))
     }
 
     pub fn all_used(&self) -> bool {
-        self.used[..self.pages.len()].iter().all(|&used| used)
+        self.used.as_flattened()[..self.pages.len()].iter().all(|&used| used)
     }
 
     /// A partition and all below it. Kernel pages are marked before the children are met, so the walk ends on any memory.
-    pub fn partition(&mut self, own: &View<'a>, parent: Option<&View<'a>>, depth: u32) -> Option<Counts> {
+    pub fn partition(&mut self, own: &View<'a, W>, parent: Option<&View<'a, W>>, depth: u32) -> Option<Counts> {
         sound(depth <= MOST_DEPTH)?;
         self.current_met |= own.address == self.pages[0][CURRENT];
         let mut kernel = 0;
@@ -46,7 +48,8 @@ impl<'a> Walk<'a> {
             if let Some(parent) = parent {
                 // "mapped inaccessible in its parent, not lent"
                 let (word, shadow1) = parent.lookup(at)?;
-                sound(word & PRESENT != 0 && word & FRAME == address && word & ACCESSIBLE == 0 && shadow1 <= IS_CHILD)?;
+                let here = word & PRESENT != 0 && word & frame::<W>() == address;
+                sound(here && word & ACCESSIBLE == 0 && shadow1 <= IS_CHILD)?;
             }
             self.mark(address)?;
             kernel += 1;
@@ -56,10 +59,10 @@ impl<'a> Walk<'a> {
     }
 
     /// The tables of a partition: how many mappings they have.
-    fn tables(&mut self, own: &View<'a>, parent: Option<&View<'a>>, depth: u32) -> Option<u32> {
+    fn tables(&mut self, own: &View<'a, W>, parent: Option<&View<'a, W>>, depth: u32) -> Option<u32> {
         let mut row = Row { own, parent, depth, mapped: 0, lent: 0, shut: 0, children: Counts::default() };
         let mut standing = 0u32;
-        for i in 0..PAGE_WORDS {
+        for i in 0..W {
             let links = [own.directory[i], own.shadow1[i], own.shadow2[i]];
             if links == [0; 3] {
                 continue;
