@@ -1,50 +1,82 @@
-//! Builds a tree by calls that all pass, and keeps each with the memory before it.
+//! Builds a tree by calls that all pass.
 
 use crate::call::Call;
-use second::memory::CURRENT;
+use crate::patch::Patch;
+use second::geometry::{Edition, Sizes, VPage};
+use second::memory::{CURRENT, ROOT_PAGE};
 
 /// The directory index at which every child has its first three, so that virtual page 0 stands in none of its tables.
-const FIRST_INDEX: u32 = 1;
+const FIRST_INDEX: usize = 1;
 const ALL_RIGHTS: u32 = 7;
-/// The last virtual page: no scenario has tables for it.
-pub const NOWHERE: u32 = (1 << 20) - 256;
-const ROOT: u32 = 256;
 
-/// A call, and the memory just before it.
+/// A call, and how the memory just before it differs from the whole tree's.
+#[derive(Clone)]
 pub struct Step {
     pub call: Call,
-    pub before: Vec<u32>,
+    pub before: Patch,
 }
 
-/// Where a child has its page k.
-fn target(k: usize) -> u32 {
-    (FIRST_INDEX << 14) + 256 * k as u32
+impl Step {
+    /// The memory just before it, of the whole tree's.
+    pub fn memory(&self, whole: &[u32]) -> Vec<u32> {
+        let mut memory = whole.to_vec();
+        self.before.apply(&mut memory);
+        memory
+    }
 }
 
 pub struct Builder {
+    pub edition: Edition,
     pub memory: Vec<u32>,
-    pub steps: Vec<Step>,
+    calls: Vec<Call>,
     /// Addresses of the pages in the hand of the caller, and of its ancestors.
     hands: Vec<Vec<u32>>,
 }
 
 impl Builder {
-    pub fn new(pages: usize) -> Builder {
-        let threes = (pages as u32 - 5).div_ceil(67);
-        let flat = pages as u32 - 6 - 3 * threes;
+    pub fn new(edition: Edition, pages: usize) -> Builder {
+        let sizes = Sizes::of_pages(edition, pages).expect("a number of pages that is permitted");
         let mut built = Builder {
-            memory: vec![0; 64 * pages],
-            steps: Vec::new(),
-            hands: vec![(1..=flat).rev().map(|v| 256 * v).collect()],
+            edition,
+            memory: vec![0; edition.page_words() * pages],
+            calls: Vec::new(),
+            hands: vec![(1..=sizes.free).rev().map(|v| VPage(v).address(edition)).collect()],
         };
-        built.call(0, &[0]);
+        built.call(0, &[edition.number]);
         built
     }
 
+    /// The last virtual page: no scenario has tables for it.
+    pub fn nowhere(&self) -> u32 {
+        VPage(self.edition.virtual_pages() - 1).address(self.edition)
+    }
+
+    /// Where a child has its page k.
+    fn target(&self, k: usize) -> u32 {
+        VPage((FIRST_INDEX * self.edition.page_words() + k) as u32).address(self.edition)
+    }
+
+    /// The tree is sound by how it is built; whole trees are judged when they are measured.
     pub fn call(&mut self, number: u32, arguments: &[u32]) -> u32 {
         let call = Call::new(number, arguments);
-        self.steps.push(Step { call, before: self.memory.clone() });
-        call.ordinary(&mut self.memory).unwrap_or_else(|refusal| panic!("{call:?} refused with {refusal}"))
+        self.calls.push(call);
+        call.trusting(&mut self.memory).unwrap_or_else(|refusal| panic!("{call:?} refused with {refusal}"))
+    }
+
+    /// The last call of each number. All calls are made again, so that only these memories are looked at.
+    pub fn last_calls(&self, whole: &[u32]) -> Vec<Step> {
+        let mut last = [None; 13];
+        for (place, call) in self.calls.iter().enumerate() {
+            last[call.number as usize] = Some(place);
+        }
+        let (mut memory, mut steps) = (vec![0; whole.len()], Vec::new());
+        for (place, &call) in self.calls.iter().enumerate() {
+            if last.contains(&Some(place)) {
+                steps.push(Step { call, before: Patch::between(&memory, whole) });
+            }
+            let _ = call.trusting(&mut memory);
+        }
+        steps
     }
 
     fn hand(&mut self) -> &mut Vec<u32> {
@@ -74,36 +106,48 @@ impl Builder {
                 self.call(12, &[page, link]);
                 self.call(11, &[page]);
             }
-            self.call(6, &[child, index << 14, three[0]]);
+            let target = VPage::at(self.edition, index, 0).address(self.edition);
+            self.call(6, &[child, target, three[0]]);
         }
         if threes > 0 {
-            let first = self.call(7, &[child, target(0)]);
-            self.call(6, &[child, target(0), first]);
+            let target = self.target(0);
+            let first = self.call(7, &[child, target]);
+            self.call(6, &[child, target, first]);
         }
     }
 
     /// Lends a page, as the child's page k.
     pub fn lend(&mut self, child: u32, k: usize) {
-        let page = self.take();
-        self.call(3, &[page, child, target(k), ALL_RIGHTS]);
+        let (page, target) = (self.take(), self.target(k));
+        self.call(3, &[page, child, target, ALL_RIGHTS]);
     }
 
     /// Takes the child's page k back and lends it again.
     pub fn lend_again(&mut self, child: u32, k: usize) {
-        let page = self.call(4, &[child, target(k)]);
-        self.call(3, &[page, child, target(k), ALL_RIGHTS]);
+        let target = self.target(k);
+        let page = self.call(4, &[child, target]);
+        self.call(3, &[page, child, target, ALL_RIGHTS]);
     }
 
     pub fn enter(&mut self, child: u32, pages: usize) {
         self.call(9, &[child]);
-        self.hands.push((0..pages).rev().map(target).collect());
+        self.hands.push((0..pages).rev().map(|k| self.target(k)).collect());
+    }
+
+    /// Leaves as far as the root.
+    pub fn climb(&mut self) {
+        while self.hands.len() > 1 {
+            self.call(10, &[]);
+            self.hands.pop();
+        }
     }
 
     /// What changes nothing of the tree and names no child: a page in hand, written, read and asked for.
     pub fn access(&mut self) {
         if let Some(&page) = self.hand().last() {
-            self.call(12, &[page + 252, 77]);
-            self.call(11, &[page + 252]);
+            let last = page + self.edition.page_bytes() - 4;
+            self.call(12, &[last, 77]);
+            self.call(11, &[last]);
             self.call(8, &[page]);
         }
     }
@@ -111,7 +155,7 @@ impl Builder {
     /// The calls that change nothing of the tree, and last the end of the child.
     pub fn finish(&mut self, child: u32) {
         self.access();
-        self.call(5, &[child, target(0)]);
+        self.call(5, &[child, self.target(0)]);
         self.call(8, &[child]);
         self.call(9, &[child]);
         self.call(10, &[]);
@@ -120,28 +164,27 @@ impl Builder {
 
     /// Each call so that it is refused, after the judgement and mostly by the last thing that it asks.
     pub fn refused(&mut self, child: u32) -> Vec<Step> {
-        let page = self.hand().last().copied().unwrap_or(NOWHERE);
-        let five = [0, 1, 2, 3, 4].map(|k| NOWHERE - 256 * k);
+        let nowhere = self.nowhere();
+        let page = self.hand().last().copied().unwrap_or(nowhere);
+        let five = [0, 1, 2, 3, 4].map(|k| nowhere - k * self.edition.page_bytes());
         let calls: [(u32, &[u32]); 12] = [
             (1, &five),
-            (2, &[NOWHERE]),
-            (3, &[page, child, NOWHERE, ALL_RIGHTS]),
-            (4, &[child, NOWHERE]),
-            (5, &[NOWHERE, NOWHERE]),
-            (6, &[child, NOWHERE, NOWHERE]),
-            (7, &[child, NOWHERE]),
-            (8, &[NOWHERE]),
-            (9, &[NOWHERE]),
+            (2, &[nowhere]),
+            (3, &[page, child, nowhere, ALL_RIGHTS]),
+            (4, &[child, nowhere]),
+            (5, &[nowhere, nowhere]),
+            (6, &[child, nowhere, nowhere]),
+            (7, &[child, nowhere]),
+            (8, &[nowhere]),
+            (9, &[nowhere]),
             (10, &[]),
             (11, &[child]),
             (12, &[child, 77]),
         ];
-        let step = |(number, arguments): (u32, &[u32])| {
-            let mut before = self.memory.clone();
-            if number == 10 {
-                before[CURRENT] = ROOT;
-            }
-            Step { call: Call::new(number, arguments), before }
+        let root = Patch::of(&[(CURRENT, ROOT_PAGE.address(self.edition))]);
+        let step = |(number, arguments): (u32, &[u32])| Step {
+            call: Call::new(number, arguments),
+            before: if number == 10 { root.clone() } else { Patch::default() },
         };
         calls.map(step).into()
     }

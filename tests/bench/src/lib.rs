@@ -2,11 +2,13 @@
 
 pub mod builder;
 pub mod call;
+pub mod clock;
 pub mod damaged;
 pub mod library;
 pub mod measure;
 pub mod ordinary;
 pub mod painted;
+pub mod patch;
 pub mod report;
 pub mod scenario;
 pub mod table;

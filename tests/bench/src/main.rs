@@ -18,7 +18,7 @@ fn main() -> ExitCode {
     if markdown {
         report.short.iter().for_each(|table| print!("{}", table.markdown()));
     } else {
-        let all = report.calls.iter().chain([&report.stack]).chain(&report.short);
+        let all = report.calls.iter().chain(&report.stack).chain(&report.short);
         all.for_each(|table| print!("{}", table.text()));
     }
     if report.bars.iter().all(Bar::holds) {

@@ -1,12 +1,17 @@
 //! Timing of calls: the least of many single calls, the versions in turn, so that other work on the machine falls out.
 
+use crate::builder::Step;
 use crate::call::{Call, JUDGE};
+use crate::clock::Clock;
 use crate::ordinary::Answer;
+use crate::patch::Patch;
 use std::hint::black_box;
 use std::time::{Duration, Instant};
 
 /// How often a version is called before the other has its turn: the first call warms the caches.
 const TURN: usize = 4;
+/// Calls on a memory of more words take so long that they are timed by the thread's processor time.
+const SHORT: usize = 1 << 15;
 
 /// Nanoseconds of a call in both versions.
 #[derive(Clone, Copy)]
@@ -25,43 +30,43 @@ impl Times {
 struct Timed {
     call: Call,
     answer: Answer,
-    memory: Vec<u32>,
+    place: Place,
+    /// What the memory of its place has otherwise when the call is made.
+    before: Patch,
     /// The words that the call changes, as they were.
-    changed: Vec<(usize, u32)>,
+    changed: Patch,
+    clock: Clock,
     least: [Duration; 2],
+    spent: Duration,
 }
 
 impl Timed {
-    /// Both versions have to do the same.
-    fn new(call: Call, before: &[u32]) -> Timed {
-        let (mut after, mut other) = (before.to_vec(), before.to_vec());
-        let answer = call.proved(&mut after);
-        assert_eq!(answer, call.ordinary(&mut other), "{call:?}");
-        assert!(after == other, "{call:?}");
-        let changed = (0..before.len()).filter(|&i| before[i] != after[i]).map(|i| (i, before[i])).collect();
-        Timed { call, answer, memory: before.to_vec(), changed, least: [Duration::MAX; 2] }
-    }
-
-    fn time(&mut self, version: fn(&Call, &mut [u32]) -> Answer) -> Duration {
-        let start = Instant::now();
-        let answer = version(black_box(&self.call), black_box(&mut self.memory));
-        let time = start.elapsed();
+    fn time(&mut self, version: fn(&Call, &mut [u32]) -> Answer, memory: &mut [u32]) -> Duration {
+        let start = self.clock.now();
+        let answer = version(black_box(&self.call), black_box(memory));
+        let time = self.clock.now() - start;
         let _ = black_box(answer);
-        for &(index, word) in &self.changed {
-            self.memory[index] = word;
-        }
+        self.changed.apply(memory);
         time
     }
 
-    fn turns(&mut self) {
+    fn turns(&mut self, memory: &mut [u32]) {
+        let start = Instant::now();
+        self.before.exchange(memory);
         let versions: [fn(&Call, &mut [u32]) -> Answer; 2] = [Call::proved, Call::ordinary];
         for (k, version) in versions.into_iter().enumerate() {
             for _ in 0..TURN {
-                self.least[k] = self.least[k].min(self.time(version));
+                self.least[k] = self.least[k].min(self.time(version, memory));
             }
         }
+        self.before.exchange(memory);
+        self.spent += start.elapsed();
     }
 }
+
+/// A memory that calls are measured on.
+#[derive(Clone, Copy)]
+pub struct Place(usize);
 
 /// A call that is measured.
 #[derive(Clone, Copy)]
@@ -69,23 +74,55 @@ pub struct Row(usize);
 
 #[derive(Default)]
 pub struct Bench {
+    memories: Vec<Vec<u32>>,
     rows: Vec<Timed>,
-    /// What reading the clock adds to a time.
-    clock: Duration,
+    /// A memory after a call, by either version.
+    after: [Vec<u32>; 2],
+    /// What reading a clock adds to a time.
+    passed: Duration,
+    thread: Duration,
 }
 
 impl Bench {
-    pub fn add(&mut self, call: Call, memory: &[u32]) -> Row {
-        self.rows.push(Timed::new(call, memory));
+    pub fn memory(&mut self, words: Vec<u32>) -> Place {
+        self.memories.push(words);
+        Place(self.memories.len() - 1)
+    }
+
+    /// A call on the memory at a place, as it was before that step. Both versions have to do the same.
+    pub fn add(&mut self, step: &Step, place: Place) -> Row {
+        let Step { call, mut before } = step.clone();
+        let (memory, [after, other]) = (&mut self.memories[place.0], &mut self.after);
+        before.exchange(memory);
+        after.clone_from(memory);
+        other.clone_from(memory);
+        let answer = call.proved(after);
+        assert_eq!(answer, call.ordinary(other), "{call:?}");
+        assert!(after == other, "{call:?}");
+        let changed = Patch::between(memory, after);
+        let clock = if memory.len() > SHORT { Clock::Thread } else { Clock::Passed };
+        before.exchange(memory);
+        let (least, spent) = ([Duration::MAX; 2], Duration::ZERO);
+        self.rows.push(Timed { call, answer, place, before, changed, clock, least, spent });
         Row(self.rows.len() - 1)
     }
 
-    /// Goes through all rows, at least once, for so long.
+    /// The judge on the memory at a place.
+    pub fn judge(&mut self, place: Place) -> Row {
+        self.add(&Step { call: JUDGE, before: Patch::default() }, place)
+    }
+
+    /// Goes through all rows, at least once, for so long; each has about the same time.
     pub fn run(&mut self, time: Duration) {
         let start = Instant::now();
-        self.clock = (0..1000).map(|_| Instant::now().elapsed()).min().unwrap_or_default();
+        (self.passed, self.thread) = (Clock::Passed.cost(), Clock::Thread.cost());
+        let count = self.rows.len() as u32;
         loop {
-            self.rows.iter_mut().for_each(Timed::turns);
+            for timed in &mut self.rows {
+                if timed.spent * count <= start.elapsed() {
+                    timed.turns(&mut self.memories[timed.place.0]);
+                }
+            }
             if start.elapsed() >= time {
                 break;
             }
@@ -93,14 +130,22 @@ impl Bench {
     }
 
     pub fn times(&self, row: Row) -> Times {
-        let nanoseconds = |least: Duration| least.saturating_sub(self.clock).as_nanos().max(1) as f64;
+        let cost = self.cost(row);
+        let nanoseconds = |least: Duration| least.saturating_sub(cost).as_nanos().max(1) as f64;
         let [proved, ordinary] = self.rows[row.0].least.map(nanoseconds);
         Times { proved, ordinary }
     }
 
+    fn cost(&self, row: Row) -> Duration {
+        match self.rows[row.0].clock {
+            Clock::Passed => self.passed,
+            Clock::Thread => self.thread,
+        }
+    }
+
     /// Nanoseconds that reading the clock costs: of two times that differ by no more, neither is known to be the greater.
-    pub fn noise(&self) -> f64 {
-        self.clock.as_nanos() as f64
+    pub fn noise(&self, row: Row) -> f64 {
+        self.cost(row).as_nanos() as f64
     }
 
     pub fn answer(&self, row: Row) -> Answer {
@@ -110,8 +155,9 @@ impl Bench {
 
 /// The judge on one memory, at a short look.
 pub fn rough(memory: &[u32]) -> Times {
-    let mut timed = Timed::new(JUDGE, memory);
-    (0..2).for_each(|_| timed.turns());
-    let [proved, ordinary] = timed.least.map(|least| least.as_nanos().max(1) as f64);
-    Times { proved, ordinary }
+    let mut bench = Bench::default();
+    let place = bench.memory(memory.to_vec());
+    let row = bench.judge(place);
+    (0..2).for_each(|_| bench.rows[row.0].turns(&mut bench.memories[place.0]));
+    bench.times(row)
 }

@@ -1,18 +1,20 @@
-//! Memories to measure on: trees of several shapes, each by a recipe for any number of pages.
+//! Memories to measure on: trees of several shapes, each by a recipe for any number of pages of either edition.
 
-use crate::builder::{Builder, Step, NOWHERE};
+use crate::builder::{Builder, Step};
+use second::geometry::{Edition, LARGE};
 use second::tree::tree;
 
 pub const MOST_DEPTH: usize = 8;
 const MOST_THREES: usize = 10;
-/// The words of a table: so many pages a partition with one three can have.
-const TABLE: usize = 64;
+/// About as many pages as the partitions of one chain can use.
+const CHAIN: usize = 256;
 
-/// A tree, the calls that built it and those tried on it.
+/// A tree, and the calls that are measured on it.
 pub struct Scenario {
     pub name: &'static str,
-    /// Calls that pass.
-    steps: Vec<Step>,
+    pub edition: Edition,
+    /// Of the calls that built it and those made on it the last of each number, mostly on the whole tree.
+    passing: Vec<Step>,
     /// Calls that are refused after the judgement.
     pub refused: Vec<Step>,
     /// The memory when the tree was whole.
@@ -21,16 +23,16 @@ pub struct Scenario {
 
 impl Scenario {
     pub fn pages(&self) -> usize {
-        self.whole.len() / 64
+        self.whole.len() / self.edition.page_words()
     }
 
     pub fn title(&self) -> String {
-        format!("{} {}", self.pages(), self.name)
+        format!("{}{} {}", prefix(self.edition), self.pages(), self.name)
     }
 
-    /// The last time that a call was made, mostly on the whole tree.
+    /// The last time that a call was made.
     pub fn last(&self, number: u32) -> Option<&Step> {
-        self.steps.iter().rev().find(|step| step.call.number == number)
+        self.passing.iter().find(|step| step.call.number == number)
     }
 
     /// The last child of the tree ends; without one the tree is the root alone.
@@ -41,7 +43,16 @@ impl Scenario {
             refused = built.refused(child);
             built.finish(child);
         }
-        Scenario { name, steps: built.steps, refused, whole }
+        Scenario { name, edition: built.edition, passing: built.last_calls(&whole), refused, whole }
+    }
+}
+
+/// How a title tells the edition.
+pub fn prefix(edition: Edition) -> &'static str {
+    if edition == LARGE {
+        "large "
+    } else {
+        ""
     }
 }
 
@@ -56,43 +67,53 @@ pub fn mappings(memory: &[u32]) -> usize {
 }
 
 /// One child with as many threes as there are pages for: with 16 pages none.
-pub fn one_child(pages: usize) -> Scenario {
-    let mut built = Builder::new(pages);
+pub fn one_child(edition: Edition, pages: usize) -> Scenario {
+    let mut built = Builder::new(edition, pages);
     let child = built.create();
     let threes = (built.left() / 3).min(MOST_THREES);
     built.prepare(child, threes);
     Scenario::of("one child", built, Some(child))
 }
 
-/// A chain of partitions, each with so many threes, down to the deepest level or as far as there are pages; each lends on all that it has left.
-fn chain(name: &'static str, pages: usize, threes: usize) -> Scenario {
-    let mut built = Builder::new(pages);
-    let mut child = built.create();
-    for _ in 1..MOST_DEPTH {
-        let Some(lent @ 5..) = built.left().checked_sub(3 * threes) else { break };
-        built.prepare(child, threes);
-        (0..lent).for_each(|k| built.lend(child, k));
-        built.lend_again(child, lent - 1);
-        built.enter(child, lent);
-        child = built.create();
+/// So many chains of partitions that share the root's pages, each partition with so many threes, down to the deepest level or as far as there are pages;
+/// each lends on all that it has left.
+fn chains(name: &'static str, mut built: Builder, chains: usize, threes: usize) -> Scenario {
+    let mut last = None;
+    for others in (0..chains).rev() {
+        built.climb();
+        let kept = built.left() * others / (others + 1);
+        let mut child = built.create();
+        for level in 1..MOST_DEPTH {
+            let kept = if level == 1 { kept } else { 0 };
+            let Some(lent @ 5..) = built.left().checked_sub(3 * threes + kept) else { break };
+            built.prepare(child, threes);
+            (0..lent).for_each(|k| built.lend(child, k));
+            built.lend_again(child, lent - 1);
+            built.enter(child, lent);
+            child = built.create();
+        }
+        last = Some(child);
     }
-    Scenario::of(name, built, Some(child))
+    Scenario::of(name, built, last)
 }
 
-/// As many threes as fit, so that most pages are kernel pages.
-pub fn deep(pages: usize) -> Scenario {
-    let left = Builder::new(pages).left().saturating_sub(5 * MOST_DEPTH);
-    chain("deep", pages, (left / (3 * (MOST_DEPTH - 1))).clamp(1, MOST_THREES))
+/// As many threes as fit, so that most pages are kernel pages: one chain, or several where one cannot use all pages.
+pub fn deep(edition: Edition, pages: usize) -> Scenario {
+    let built = Builder::new(edition, pages);
+    let count = pages.div_ceil(CHAIN);
+    let left = (built.left() / count).saturating_sub(5 * MOST_DEPTH);
+    chains("deep", built, count, (left / (3 * (MOST_DEPTH - 1))).clamp(1, MOST_THREES))
 }
 
-/// As few threes as the lent pages need, so that there are many mappings for each kernel page.
-pub fn deep_few_tables(pages: usize) -> Scenario {
-    chain("deep, few tables", pages, Builder::new(pages).left().div_ceil(64))
+/// One chain with as few threes as the lent pages need, so that there are many mappings for each kernel page.
+pub fn deep_few_tables(edition: Edition, pages: usize) -> Scenario {
+    let built = Builder::new(edition, pages);
+    let threes = built.left().div_ceil(edition.page_words());
+    chains("deep, few tables", built, 1, threes)
 }
 
 /// As many children of the root as there are pages for, each with so many threes and lent pages; these are lent in turn.
-fn children(name: &'static str, pages: usize, threes: usize, lent: usize) -> Scenario {
-    let mut built = Builder::new(pages);
+fn children(name: &'static str, mut built: Builder, threes: usize, lent: usize) -> Scenario {
     let mut all = Vec::new();
     while built.left() >= 5 + 3 * threes + (all.len() + 1) * lent {
         let child = built.create();
@@ -107,37 +128,37 @@ fn children(name: &'static str, pages: usize, threes: usize, lent: usize) -> Sce
 }
 
 /// One three and one lent page each.
-pub fn broad(pages: usize) -> Scenario {
-    children("broad", pages, 1, 1)
+pub fn broad(edition: Edition, pages: usize) -> Scenario {
+    children("broad", Builder::new(edition, pages), 1, 1)
 }
 
 /// One three each, and twenty lent pages.
-pub fn broad_few_tables(pages: usize) -> Scenario {
-    children("broad, few tables", pages, 1, 20)
+pub fn broad_few_tables(edition: Edition, pages: usize) -> Scenario {
+    children("broad, few tables", Builder::new(edition, pages), 1, 20)
 }
 
 /// Children without tables.
-pub fn bare(pages: usize) -> Scenario {
-    children("bare", pages, 0, 0)
+pub fn bare(edition: Edition, pages: usize) -> Scenario {
+    children("bare", Builder::new(edition, pages), 0, 0)
 }
 
 /// A chain down to this level, one three each, on which every call is made: the parent of the last partition is the caller, and has lent it a page. Where
 /// the root is alone it is the caller, and has no child to name.
-pub fn down_to(level: usize) -> Scenario {
-    let mut built = Builder::new(96);
+pub fn down_to(level: usize, edition: Edition, pages: usize) -> Scenario {
+    let mut built = Builder::new(edition, pages);
     for _ in 1..level {
         let child = built.create();
         built.prepare(child, 1);
-        let lent = built.left().min(TABLE);
+        let lent = built.left().min(edition.page_words());
         (0..lent).for_each(|k| built.lend(child, k));
         built.enter(child, lent);
     }
     let name = "down to a level";
     if level == 0 {
-        let (whole, refused) = (built.memory.clone(), built.refused(NOWHERE));
+        let (whole, refused) = (built.memory.clone(), built.refused(built.nowhere()));
         built.access();
         built.create();
-        return Scenario { name, steps: built.steps, refused, whole };
+        return Scenario { name, edition, passing: built.last_calls(&whole), refused, whole };
     }
     let child = built.create();
     built.prepare(child, 1);

@@ -1,8 +1,9 @@
 //! The stack that the library takes: how it is measured, and its bar, which is of the archive and not of the machine.
 
 use bench::painted::{call, Function};
-use bench::report::stack::Stack;
+use bench::report::stack::{sizes, Stack};
 use bench::scenario::{down_to, MOST_DEPTH};
+use second::geometry::{Edition, EDITIONS};
 use second::tree::tree;
 use std::hint::black_box;
 
@@ -28,24 +29,34 @@ fn painted() {
     assert!((1024..4096).contains(&called.stack), "{}", called.stack);
 }
 
+/// The editions with the numbers of pages that are measured.
+fn all() -> impl Iterator<Item = (Edition, usize)> {
+    EDITIONS.into_iter().flat_map(|edition| sizes(edition).iter().map(move |&pages| (edition, pages)))
+}
+
 /// Every call that is measured is made on a tree as deep as its column says, and is there from the first child on.
 #[test]
 fn depths() {
-    for depth in 0..=MOST_DEPTH {
-        let scenario = down_to(depth);
-        let passing: Vec<_> = (1..=12).filter_map(|number| scenario.last(number)).collect();
-        assert_eq!(passing.len(), if depth == 0 { 4 } else { 12 });
-        assert_eq!(scenario.refused.len(), 12);
-        for step in passing.into_iter().chain(&scenario.refused) {
-            assert_eq!(tree(&step.before).iter().map(|node| node.depth).max(), Some(depth), "{:?}", step.call);
+    for (edition, pages) in all() {
+        for depth in 0..=MOST_DEPTH {
+            let scenario = down_to(depth, edition, pages);
+            let passing: Vec<_> = (1..=12).filter_map(|number| scenario.last(number)).collect();
+            assert_eq!(passing.len(), if depth == 0 { 4 } else { 12 });
+            assert_eq!(scenario.refused.len(), 12);
+            for step in passing.into_iter().chain(&scenario.refused) {
+                let before = step.memory(&scenario.whole);
+                assert_eq!(tree(&before).iter().map(|node| node.depth).max(), Some(depth), "{:?}", step.call);
+            }
         }
     }
 }
 
 #[test]
 fn bar() {
-    let stack = Stack::measure();
-    let bar = stack.bar();
-    assert!(bar.holds(), "{} KiB in {}", bar.figure, bar.place);
-    assert!((1..=MOST_DEPTH).all(|depth| stack.most(depth - 1) < stack.most(depth)), "a level takes stack");
+    for (edition, pages) in all() {
+        let stack = Stack::measure(edition, pages);
+        let bar = stack.bar();
+        assert!(bar.holds(), "{} KiB in {}: {}", bar.figure, bar.name, bar.place);
+        assert!((1..=MOST_DEPTH).all(|depth| stack.most(depth - 1) < stack.most(depth)), "a level takes stack");
+    }
 }

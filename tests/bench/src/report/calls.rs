@@ -1,8 +1,8 @@
 //! Format and the twelve calls on the tree of a scenario.
 
 use super::{ratio, whole};
-use crate::call::{JUDGE, NAMES};
-use crate::measure::{Bench, Row};
+use crate::call::{JUDGED_SOUND, NAMES};
+use crate::measure::{Bench, Place, Row};
 use crate::scenario::{kernel_pages, mappings, Scenario};
 use crate::table::Table;
 
@@ -10,25 +10,33 @@ pub struct Calls {
     title: String,
     kernel: usize,
     mappings: usize,
-    judge: Row,
+    pub judge: Row,
     /// By number: the call where it passes, and where it is refused after the judgement.
     rows: Vec<(Option<Row>, Option<Row>)>,
 }
 
 impl Calls {
-    pub fn of(scenario: &Scenario, bench: &mut Bench) -> Calls {
+    /// The scenario's whole memory is at the place.
+    pub fn of(scenario: &Scenario, place: Place, bench: &mut Bench) -> Calls {
+        let judge = bench.judge(place);
+        assert_eq!(bench.answer(judge), JUDGED_SOUND, "{}", scenario.title());
         let row = |number| {
             let passing = scenario.last(number);
             let refused = scenario.refused.iter().find(|step| step.call.number == number);
-            [passing, refused].map(|step| step.map(|step| bench.add(step.call, &step.before)))
+            [passing, refused].map(|step| step.map(|step| bench.add(step, place)))
         };
         Calls {
             title: scenario.title(),
             kernel: kernel_pages(&scenario.whole),
             mappings: mappings(&scenario.whole),
             rows: (0..=12).map(row).map(|[passing, refused]| (passing, refused)).collect(),
-            judge: bench.add(JUDGE, &scenario.whole),
+            judge,
         }
+    }
+
+    /// A call where it passes.
+    pub fn passing(&self, number: u32) -> Option<Row> {
+        self.rows[number as usize].0
     }
 
     pub fn table(&self, bench: &Bench) -> Table {

@@ -1,7 +1,6 @@
 //! The judge on damaged memories, beside the sound memory of the same scenario.
 
 use super::{ratio, Bar};
-use crate::call::JUDGE;
 use crate::damaged::damaged;
 use crate::measure::{Bench, Row, Times};
 use crate::scenario::Scenario;
@@ -17,14 +16,15 @@ pub struct Damages {
 }
 
 impl Damages {
-    pub fn of(scenario: &Scenario, bench: &mut Bench) -> Damages {
+    /// The judge on the sound memory is measured already.
+    pub fn of(scenario: &Scenario, sound: Row, bench: &mut Bench) -> Damages {
         let damaged = damaged(&scenario.whole).into_iter().map(|damaged| {
-            let row = bench.add(JUDGE, &damaged.words);
+            let place = bench.memory(damaged.words);
+            let row = bench.judge(place);
             assert_eq!(bench.answer(row), Err(1), "{}", damaged.name);
             (damaged.name, row)
         });
-        let damaged = damaged.collect();
-        Damages { title: scenario.title(), sound: bench.add(JUDGE, &scenario.whole), damaged }
+        Damages { title: scenario.title(), damaged: damaged.collect(), sound }
     }
 
     fn shares<'a>(&'a self, bench: &'a Bench) -> impl Iterator<Item = (&'static str, Times)> + 'a {
@@ -52,9 +52,9 @@ pub fn table(all: &[Damages], bench: &Bench) -> Table {
     table
 }
 
-pub fn bar(all: &[Damages], bench: &Bench) -> Bar {
+pub fn bar(name: String, all: &[Damages], bench: &Bench) -> Bar {
     let figures = all.iter().flat_map(|damages| {
         damages.shares(bench).map(|(name, share)| (share.proved, format!("{}: {name}", damages.title)))
     });
-    Bar::new("damaged memory over the sound", MOST, figures)
+    Bar::new(name, MOST, figures)
 }

@@ -1,25 +1,32 @@
 //! How the judge's cost grows with the number of kernel pages.
 
 use super::{ratio, whole, Bar};
-use crate::call::JUDGE;
 use crate::measure::{Bench, Row};
 use crate::scenario::*;
 use crate::table::Table;
+use second::geometry::{Edition, LARGE};
 
-/// "per page within a factor 2 from 16 to 256"
+/// "per page within a factor 2 from 16 to 256"; with large pages from 16 to 4,096.
 const MOST: f64 = 2.0;
-const PAGES: [usize; 5] = [16, 32, 73, 128, 256];
 
-type Recipe = fn(usize) -> Scenario;
+type Recipe = fn(Edition, usize) -> Scenario;
 
 /// The same shape at each size: kernel pages grow with the memory.
 const RECIPES: [Recipe; 3] = [deep, broad, bare];
 /// Few kernel pages and many mappings, more of them the more pages there are.
 const OTHERS: [Recipe; 3] = [one_child, deep_few_tables, broad_few_tables];
 
+fn sizes(edition: Edition) -> &'static [usize] {
+    if edition == LARGE {
+        &[16, 256, 1024, 4096]
+    } else {
+        &[16, 32, 73, 128, 256]
+    }
+}
+
 /// The judge on one memory.
 struct Size {
-    name: &'static str,
+    name: String,
     pages: usize,
     kernel: usize,
     mappings: usize,
@@ -27,10 +34,11 @@ struct Size {
 }
 
 impl Size {
-    fn of(recipe: Recipe, pages: usize, bench: &mut Bench) -> Size {
-        let Scenario { name, whole, .. } = recipe(pages);
-        let judge = bench.add(JUDGE, &whole);
-        Size { name, pages, kernel: kernel_pages(&whole), mappings: mappings(&whole), judge }
+    fn of(recipe: Recipe, edition: Edition, pages: usize, bench: &mut Bench) -> Size {
+        let Scenario { name, whole, .. } = recipe(edition, pages);
+        let (kernel, mappings, place) = (kernel_pages(&whole), mappings(&whole), bench.memory(whole));
+        let name = format!("{}{name}", prefix(edition));
+        Size { name, pages, kernel, mappings, judge: bench.judge(place) }
     }
 
     fn per_page(&self, bench: &Bench) -> f64 {
@@ -44,9 +52,10 @@ pub struct Growth {
 }
 
 impl Growth {
-    pub fn new(bench: &mut Bench) -> Growth {
-        let recipes = RECIPES.map(|recipe| PAGES.map(|pages| Size::of(recipe, pages, bench)).into());
-        let others = OTHERS.map(|recipe| Size::of(recipe, PAGES[4], bench));
+    pub fn new(edition: Edition, bench: &mut Bench) -> Growth {
+        let mut size = |recipe, pages| Size::of(recipe, edition, pages, bench);
+        let recipes = RECIPES.map(|recipe| sizes(edition).iter().map(|&pages| size(recipe, pages)).collect());
+        let others = OTHERS.map(|recipe| size(recipe, edition.most_pages()));
         Growth { recipes: recipes.into(), others: others.into() }
     }
 
@@ -74,7 +83,7 @@ fn table<'a>(title: &str, sizes: impl Iterator<Item = &'a Size>, bench: &Bench) 
     for size in sizes {
         let times = bench.times(size.judge);
         table.row([
-            size.name.to_string(),
+            size.name.clone(),
             size.pages.to_string(),
             size.kernel.to_string(),
             size.mappings.to_string(),

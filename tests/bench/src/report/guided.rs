@@ -1,14 +1,21 @@
 //! Sound memories that guided random calls lead to: those on which the judge is slowest beside the ordinary version.
 
 use super::{ratio, whole};
-use crate::call::JUDGE;
 use crate::measure::{rough, Bench, Row};
-use crate::scenario::{kernel_pages, mappings};
+use crate::scenario::{kernel_pages, mappings, prefix};
 use crate::table::Table;
+use second::geometry::{Edition, LARGE};
 use second::make::guide;
 use second::random::Random;
 
-const PAGES: [usize; 5] = [16, 32, 73, 128, 256];
+fn sizes(edition: Edition) -> &'static [usize] {
+    if edition == LARGE {
+        &[16, 32]
+    } else {
+        &[16, 32, 73, 128, 256]
+    }
+}
+
 /// Sequences of each size, the calls of each, and how many of them lie between two memories.
 const SEQUENCES: u32 = 10;
 const CALLS: usize = 1500;
@@ -17,7 +24,8 @@ const APART: usize = 40;
 const KEPT: usize = 4;
 
 struct Memory {
-    pages: usize,
+    /// Edition and number of pages.
+    size: String,
     kernel: usize,
     mappings: usize,
     judge: Row,
@@ -26,14 +34,16 @@ struct Memory {
 pub struct Guided(Vec<Vec<Memory>>);
 
 impl Guided {
-    pub fn new(bench: &mut Bench) -> Guided {
-        let mut measured = |words: Vec<u32>| Memory {
-            pages: words.len() / 64,
-            kernel: kernel_pages(&words),
-            mappings: mappings(&words),
-            judge: bench.add(JUDGE, &words),
+    pub fn new(edition: Edition, bench: &mut Bench) -> Guided {
+        let mut measured = |pages: usize, words: Vec<u32>| {
+            let (kernel, mappings, place) = (kernel_pages(&words), mappings(&words), bench.memory(words));
+            Memory { size: format!("{}{pages}", prefix(edition)), kernel, mappings, judge: bench.judge(place) }
         };
-        Guided(PAGES.map(|pages| slowest(pages).into_iter().map(&mut measured).collect()).into())
+        let slowest = sizes(edition).iter().map(|&pages| {
+            let words = slowest(edition, pages).into_iter();
+            words.map(|words| measured(pages, words)).collect()
+        });
+        Guided(slowest.collect())
     }
 
     /// The slowest of each size, with its ratio.
@@ -43,7 +53,7 @@ impl Guided {
     }
 
     pub fn figures<'a>(&'a self, bench: &'a Bench) -> impl Iterator<Item = (f64, String)> + 'a {
-        self.slowest(bench).map(|(figure, memory)| (figure, format!("{} after guided calls: the judge", memory.pages)))
+        self.slowest(bench).map(|(figure, memory)| (figure, format!("{} after guided calls: the judge", memory.size)))
     }
 
     pub fn table(&self, bench: &Bench) -> Table {
@@ -54,20 +64,20 @@ impl Guided {
         let mut table = Table::new(title, &["pages", "kernel pages", "mappings", "judge", "ordinary", "ratio"]);
         for (figure, memory) in self.slowest(bench) {
             let times = bench.times(memory.judge);
-            let sizes = [memory.pages, memory.kernel, memory.mappings].map(|size| size.to_string());
-            let [a, b, c] = sizes;
-            table.row([a, b, c, whole(times.proved), whole(times.ordinary), ratio(figure)]);
+            let [kernel, mappings] = [memory.kernel, memory.mappings].map(|count| count.to_string());
+            let [proved, ordinary] = [times.proved, times.ordinary].map(whole);
+            table.row([memory.size.clone(), kernel, mappings, proved, ordinary, ratio(figure)]);
         }
         table
     }
 }
 
 /// The memories of a size that seem slowest at a short look.
-fn slowest(pages: usize) -> Vec<Vec<u32>> {
+fn slowest(edition: Edition, pages: usize) -> Vec<Vec<u32>> {
     let mut met = Vec::new();
     for seed in 0..SEQUENCES {
-        let mut words = vec![0; 64 * pages];
-        let _ = second::calls::format(&mut words, 0);
+        let mut words = vec![0; edition.page_words() * pages];
+        let _ = second::calls::format(&mut words, edition.number);
         let mut calls = 0;
         guide(&mut words, &mut Random::new(900 + seed), CALLS, |_, _, memory| {
             if calls % APART == 0 {

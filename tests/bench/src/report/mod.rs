@@ -14,12 +14,15 @@ use calls::Calls;
 use damaged::Damages;
 use growth::Growth;
 use guided::Guided;
+use second::geometry::{Edition, EDITIONS, LARGE};
 use stack::Stack;
 use std::time::Duration;
 use wiping::Wiping;
 
 /// "no call slower than 2.0 times the ordinary Rust version at any size"
 const MOST: f64 = 2.0;
+/// In a memory of more pages the judge hides what wiping costs.
+const MOST_WIPED: usize = 256;
 
 /// A figure that may not be above its bar, and where it was found.
 pub struct Bar {
@@ -55,48 +58,120 @@ pub struct Report {
     /// Each call in each scenario.
     pub calls: Vec<Table>,
     /// Each function on a tree of each depth.
-    pub stack: Table,
+    pub stack: Vec<Table>,
     /// The rest, short enough for a document.
     pub short: Vec<Table>,
     pub bars: Vec<Bar>,
 }
 
+/// How a table's title and a bar's name tell the edition.
+fn suffix(edition: Edition) -> &'static str {
+    if edition == LARGE {
+        ", large pages"
+    } else {
+        ""
+    }
+}
+
+/// The trees on which all calls are measured.
+fn scenarios(edition: Edition) -> Vec<Scenario> {
+    let recipes: &[(fn(Edition, usize) -> Scenario, usize)] = if edition == LARGE {
+        &[
+            (one_child, 16),
+            (deep, 256),
+            (broad, 256),
+            (deep, 1024),
+            (broad, 1024),
+            (broad_few_tables, 1024),
+            (deep, 4096),
+            (deep_few_tables, 4096),
+            (broad, 4096),
+        ]
+    } else {
+        &[
+            (one_child, 16),
+            (one_child, 256),
+            (deep, 73),
+            (broad, 73),
+            (deep, 256),
+            (deep_few_tables, 256),
+            (broad, 256),
+            (broad_few_tables, 256),
+            (bare, 256),
+        ]
+    };
+    recipes.iter().map(|(recipe, pages)| recipe(edition, *pages)).collect()
+}
+
+/// What is measured in the scenarios of an edition.
+struct Measured {
+    edition: Edition,
+    calls: Vec<Calls>,
+    wiping: Vec<Wiping>,
+    damages: Vec<Damages>,
+    stacks: Vec<Stack>,
+    growth: Growth,
+    guided: Guided,
+}
+
+impl Measured {
+    fn new(edition: Edition, bench: &mut Bench) -> Measured {
+        let (mut calls, mut wiping, mut damages) = (Vec::new(), Vec::new(), Vec::new());
+        for scenario in scenarios(edition) {
+            let place = bench.memory(scenario.whole.clone());
+            let measured = Calls::of(&scenario, place, bench);
+            if scenario.pages() <= MOST_WIPED {
+                wiping.push(Wiping::of(&scenario, &measured, place, bench));
+            }
+            damages.push(Damages::of(&scenario, measured.judge, bench));
+            calls.push(measured);
+        }
+        let stacks = stack::sizes(edition).iter().map(|&pages| Stack::measure(edition, pages)).collect();
+        Measured {
+            edition,
+            calls,
+            wiping,
+            damages,
+            stacks,
+            growth: Growth::new(edition, bench),
+            guided: Guided::new(edition, bench),
+        }
+    }
+
+    /// The tables that are short enough for a document.
+    fn short(&self, bench: &Bench) -> Vec<Table> {
+        let mut short = vec![calls::summary(&self.calls, bench), self.guided.table(bench)];
+        short.extend(self.growth.tables(bench));
+        short.push(wiping::table(&self.wiping, bench));
+        short.push(damaged::table(&self.damages, bench));
+        short.iter_mut().for_each(|table| table.title += suffix(self.edition));
+        short.extend(self.stacks.iter().map(Stack::summary));
+        short
+    }
+
+    fn bars(&self, bench: &Bench) -> Vec<Bar> {
+        let of = suffix(self.edition);
+        let figures = calls::figures(&self.calls, bench).chain(self.guided.figures(bench));
+        let mut bars = vec![Bar::new(format!("a call over the ordinary version's{of}"), MOST, figures)];
+        bars.extend(self.growth.bars(bench));
+        bars.push(damaged::bar(format!("damaged memory over the sound{of}"), &self.damages, bench));
+        bars.extend(self.stacks.iter().map(Stack::bar));
+        bars
+    }
+}
+
 impl Report {
     /// Measures for so long.
     pub fn measure(time: Duration) -> Report {
-        let scenarios = [
-            one_child(16),
-            one_child(256),
-            deep(73),
-            broad(73),
-            deep(256),
-            deep_few_tables(256),
-            broad(256),
-            broad_few_tables(256),
-            bare(256),
-        ];
         let mut bench = Bench::default();
-        let calls: Vec<_> = scenarios.iter().map(|scenario| Calls::of(scenario, &mut bench)).collect();
-        let growth = Growth::new(&mut bench);
-        let guided = Guided::new(&mut bench);
-        let wiping: Vec<_> = scenarios.iter().map(|scenario| Wiping::of(scenario, &mut bench)).collect();
-        let damages: Vec<_> = scenarios.iter().map(|scenario| Damages::of(scenario, &mut bench)).collect();
-        let stack = Stack::measure();
+        let measured = EDITIONS.map(|edition| Measured::new(edition, &mut bench));
         bench.run(time);
-        let mut short = vec![calls::summary(&calls, &bench)];
-        short.push(guided.table(&bench));
-        short.extend(growth.tables(&bench));
-        short.push(wiping::table(&wiping, &bench));
-        short.push(damaged::table(&damages, &bench));
-        short.push(stack.summary());
-        let figures = calls::figures(&calls, &bench).chain(guided.figures(&bench));
-        let mut bars = vec![Bar::new("a call over the ordinary version's", MOST, figures)];
-        bars.extend(growth.bars(&bench));
-        bars.push(damaged::bar(&damages, &bench));
-        bars.push(stack.bar());
+        let bars: Vec<_> = measured.iter().flat_map(|measured| measured.bars(&bench)).collect();
+        let mut short: Vec<_> = measured.iter().flat_map(|measured| measured.short(&bench)).collect();
         short.push(verdicts(&bars));
-        let calls = calls.iter().map(|calls| calls.table(&bench)).collect();
-        Report { calls, stack: stack.table(), short, bars }
+        let calls = measured.iter().flat_map(|measured| &measured.calls).map(|calls| calls.table(&bench)).collect();
+        let stack = measured.iter().flat_map(|measured| &measured.stacks).map(Stack::table).collect();
+        Report { calls, stack, short, bars }
     }
 }
 

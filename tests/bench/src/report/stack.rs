@@ -4,16 +4,20 @@ use super::Bar;
 use crate::builder::Step;
 use crate::call::{Call, JUDGE, NAMES};
 use crate::library;
-use crate::scenario::{down_to, Scenario, MOST_DEPTH};
+use crate::patch::Patch;
+use crate::scenario::{down_to, prefix, Scenario, MOST_DEPTH};
 use crate::table::Table;
 use second::damage::wide_damage;
+use second::geometry::{Edition, LARGE};
 use second::random::Random;
 use second::record::{LENGTH, REVISION};
 
 /// Kibibytes: what include/tumashqin.h says.
 const MOST: f64 = 4.0;
-/// Random damages of the tree of each depth.
+/// Random damages of the tree of each depth: so many, but in a large memory fewer, so that about as many words are judged.
 const DAMAGES: usize = 300;
+const LEAST_DAMAGES: usize = 10;
+const MOST_WORDS: usize = DAMAGES << 14;
 /// The places of these two among the lines.
 const ON_JUDGE: usize = 0;
 const ON_DAMAGED: usize = 1;
@@ -24,25 +28,38 @@ struct Line {
     bytes: Vec<Option<usize>>,
 }
 
-pub struct Stack(Vec<Line>);
+/// With how many pages it is measured: marks of pages are the most with the most.
+pub fn sizes(edition: Edition) -> &'static [usize] {
+    if edition == LARGE {
+        &[96, 4096]
+    } else {
+        &[96]
+    }
+}
+
+pub struct Stack {
+    /// Edition and number of pages.
+    size: String,
+    lines: Vec<Line>,
+}
 
 impl Stack {
-    pub fn measure() -> Stack {
+    pub fn measure(edition: Edition, pages: usize) -> Stack {
         let mut lines: Vec<Line> = Vec::new();
         for depth in 0..=MOST_DEPTH {
-            for (k, (name, bytes)) in functions(&down_to(depth)).into_iter().enumerate() {
+            for (k, (name, bytes)) in functions(&down_to(depth, edition, pages)).into_iter().enumerate() {
                 if k == lines.len() {
                     lines.push(Line { name, bytes: Vec::new() });
                 }
                 lines[k].bytes.push(bytes);
             }
         }
-        Stack(lines)
+        Stack { size: format!("{}{pages}", prefix(edition)), lines }
     }
 
     /// The most at a depth, and the first function that takes it.
     pub fn most(&self, depth: usize) -> (usize, &str) {
-        let bytes = self.0.iter().filter_map(|line| Some((line.bytes[depth]?, line.name.as_str())));
+        let bytes = self.lines.iter().filter_map(|line| Some((line.bytes[depth]?, line.name.as_str())));
         bytes.rev().max_by_key(|line| line.0).expect("a function")
     }
 
@@ -50,21 +67,23 @@ impl Stack {
     pub fn table(&self) -> Table {
         let depths: Vec<String> = (0..=MOST_DEPTH).map(|depth| depth.to_string()).collect();
         let head: Vec<&str> = std::iter::once("").chain(depths.iter().map(String::as_str)).collect();
-        let mut table = Table::new("Bytes of stack, by the levels of the tree below the root", &head);
+        let title = format!("Bytes of stack, by the levels of the tree below the root; {} pages", self.size);
+        let mut table = Table::new(title, &head);
         let cell = |bytes: &Option<usize>| bytes.map_or(String::new(), |bytes| bytes.to_string());
         let row = |line: &Line| std::iter::once(line.name.clone()).chain(line.bytes.iter().map(cell)).collect();
-        table.rows = self.0.iter().map(row).collect();
+        table.rows = self.lines.iter().map(row).collect();
         table
     }
 
     /// The most at each depth.
     pub fn summary(&self) -> Table {
         let head = ["levels below the root", "most", "by", "the judge", "on damaged memory"];
-        let mut table = Table::new("Bytes of stack that a call takes, from its return address on", &head);
+        let title = format!("Bytes of stack that a call takes, from its return address on; {} pages", self.size);
+        let mut table = Table::new(title, &head);
         for depth in 0..=MOST_DEPTH {
             let (most, name) = self.most(depth);
-            let [judge, damaged] =
-                [ON_JUDGE, ON_DAMAGED].map(|k| self.0[k].bytes[depth].map_or(String::new(), |bytes| bytes.to_string()));
+            let [judge, damaged] = [ON_JUDGE, ON_DAMAGED]
+                .map(|k| self.lines[k].bytes[depth].map_or(String::new(), |bytes| bytes.to_string()));
             table.row([depth.to_string(), most.to_string(), name.to_string(), judge, damaged]);
         }
         table
@@ -75,52 +94,66 @@ impl Stack {
             let (bytes, name) = self.most(depth);
             (bytes as f64 / 1024.0, format!("{depth} levels: {name}"))
         });
-        Bar::new("stack of a call, in KiB", MOST, figures)
+        Bar::new(format!("stack of a call, in KiB, {} pages", self.size), MOST, figures)
     }
 }
 
 /// Every function on the tree of a scenario, and the judge on damages of it.
 fn functions(scenario: &Scenario) -> Vec<(String, Option<usize>)> {
     let whole = &scenario.whole;
+    let mut memories = Memories { whole, after: whole.clone(), other: whole.clone() };
+    let judge = Step { call: JUDGE, before: Patch::default() };
     let mut all = vec![
-        ("the judge".to_string(), Some(on(&JUDGE, whole))),
-        ("the judge on damaged memory".to_string(), damages(whole)),
+        ("the judge".to_string(), Some(memories.on(&judge))),
+        ("the judge on damaged memory".to_string(), memories.damages()),
     ];
     for (number, name) in (0..).zip(NAMES) {
-        let format = Step { call: Call::new(0, &[]), before: whole.clone() };
+        let format = Step { call: Call::new(0, &[scenario.edition.number]), before: Patch::default() };
         let passing = if number == 0 { Some(&format) } else { scenario.last(number) };
         let refused = scenario.refused.iter().find(|step| step.call.number == number);
-        let bytes = |step: Option<&Step>| step.map(|step| on(&step.call, &step.before));
-        all.push((name.to_string(), bytes(passing)));
+        all.push((name.to_string(), passing.map(|step| memories.on(step))));
         if number > 0 {
-            all.push((format!("{name}, refused"), bytes(refused)));
+            all.push((format!("{name}, refused"), refused.map(|step| memories.on(step))));
         }
     }
-    all.extend(records(whole).map(|(name, bytes)| (name.to_string(), Some(bytes))));
+    all.extend(records(whole, scenario.edition).map(|(name, bytes)| (name.to_string(), Some(bytes))));
     all
 }
 
-/// A call, which has to do what the ordinary version does.
-fn on(call: &Call, before: &[u32]) -> usize {
-    let (mut after, mut other) = (before.to_vec(), before.to_vec());
-    let (answer, bytes) = library::call(call, &mut after);
-    assert_eq!(answer, call.ordinary(&mut other), "{call:?}");
-    assert!(after == other, "{call:?}");
-    bytes
+/// The whole tree's memory, and two like it that calls are made on.
+struct Memories<'a> {
+    whole: &'a [u32],
+    after: Vec<u32>,
+    other: Vec<u32>,
 }
 
-fn damages(whole: &[u32]) -> Option<usize> {
-    let mut random = Random::new(13);
-    let damaged = (0..DAMAGES).map(|_| {
-        let mut words = whole.to_vec();
-        wide_damage(whole, &mut random).into_iter().for_each(|(i, word)| words[i] = word);
-        on(&JUDGE, &words)
-    });
-    damaged.max()
+impl Memories<'_> {
+    /// A call, which has to do what the ordinary version does.
+    fn on(&mut self, Step { call, before }: &Step) -> usize {
+        let Memories { whole, after, other } = self;
+        for memory in [&mut *after, &mut *other] {
+            memory.copy_from_slice(whole);
+            before.apply(memory);
+        }
+        let (answer, bytes) = library::call(call, after);
+        assert_eq!(answer, call.ordinary(other), "{call:?}");
+        assert!(after == other, "{call:?}");
+        bytes
+    }
+
+    fn damages(&mut self) -> Option<usize> {
+        let mut random = Random::new(13);
+        let count = (MOST_WORDS / self.whole.len()).clamp(LEAST_DAMAGES, DAMAGES);
+        let damaged = (0..count).map(|_| {
+            let before = Patch::of(&wide_damage(self.whole, &mut random));
+            self.on(&Step { call: JUDGE, before })
+        });
+        damaged.max()
+    }
 }
 
 /// The record's writer where it passes and where it is refused after the judgement, and its readers.
-fn records(whole: &[u32]) -> [(&'static str, usize); 6] {
+fn records(whole: &[u32], edition: Edition) -> [(&'static str, usize); 6] {
     let (mut record, revision) = ([0; LENGTH], [7; REVISION]);
     let (refusal, short) = library::write_record(whole, &revision[1..], &mut record);
     assert_eq!((refusal, record), (17, [0; LENGTH]));
@@ -130,7 +163,7 @@ fn records(whole: &[u32]) -> [(&'static str, usize); 6] {
         let (answer, bytes) = library::read(reader, &record);
         (name, answer, bytes)
     });
-    assert_eq!((check.1, begin.1, part.1), (0, 256, 64));
+    assert_eq!((check.1, begin.1, part.1), (0, edition.page_bytes(), 64));
     let reader = |(name, _, bytes)| (name, bytes);
     let [check, begin, end, part] = [check, begin, end, part].map(reader);
     [("write record", written), ("write record, refused", short), check, begin, end, part]

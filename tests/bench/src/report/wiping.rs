@@ -1,9 +1,10 @@
 //! Wiping a page: createPartition takes five pages and deletePartition returns a child's, each wiped; the judge's cost is taken off.
 
+use super::calls::Calls;
 use super::ratio;
 use crate::builder::Step;
 use crate::call::JUDGE;
-use crate::measure::{Bench, Row};
+use crate::measure::{Bench, Place, Row};
 use crate::scenario::{kernel_pages, Scenario};
 use crate::table::Table;
 
@@ -15,21 +16,19 @@ struct Wiped {
 }
 
 impl Wiped {
-    fn of(step: &Step, bench: &mut Bench) -> Wiped {
-        let mut after = step.before.clone();
-        let _ = step.call.ordinary(&mut after);
-        Wiped {
-            pages: kernel_pages(&step.before).abs_diff(kernel_pages(&after)),
-            call: bench.add(step.call, &step.before),
-            judge: bench.add(JUDGE, &step.before),
-        }
+    fn of(step: &Step, call: Row, scenario: &Scenario, place: Place, bench: &mut Bench) -> Wiped {
+        let mut memory = step.memory(&scenario.whole);
+        let before = kernel_pages(&memory);
+        let _ = step.call.ordinary(&mut memory);
+        let pages = before.abs_diff(kernel_pages(&memory));
+        Wiped { pages, call, judge: bench.add(&Step { call: JUDGE, before: step.before.clone() }, place) }
     }
 
     /// For each page, with all else that the call does after the judgement. A ratio only where both differences are above the clock's noise.
     fn cells(&self, bench: &Bench) -> [String; 4] {
         let (call, judge) = (bench.times(self.call), bench.times(self.judge));
         let [proved, ordinary] = [call.proved - judge.proved, call.ordinary - judge.ordinary];
-        let known = proved.min(ordinary) > bench.noise();
+        let known = proved.min(ordinary) > bench.noise(self.call);
         let share = if known { ratio(proved / ordinary) } else { String::new() };
         let page = |time: f64| format!("{:.1}", time / self.pages as f64);
         [self.pages.to_string(), page(proved), page(ordinary), share]
@@ -43,8 +42,13 @@ pub struct Wiping {
 }
 
 impl Wiping {
-    pub fn of(scenario: &Scenario, bench: &mut Bench) -> Wiping {
-        let mut wiped = |number| Wiped::of(scenario.last(number).expect("a child that is made and ended"), bench);
+    /// The calls are measured already, on the scenario's whole memory, which is at the place.
+    pub fn of(scenario: &Scenario, calls: &Calls, place: Place, bench: &mut Bench) -> Wiping {
+        let mut wiped = |number| {
+            let measured = scenario.last(number).zip(calls.passing(number));
+            let (step, call) = measured.expect("a child that is made and ended");
+            Wiped::of(step, call, scenario, place, bench)
+        };
         Wiping { title: scenario.title(), create: wiped(1), delete: wiped(2) }
     }
 }
