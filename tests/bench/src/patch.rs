@@ -22,6 +22,11 @@ impl Patch {
         Patch(words.collect())
     }
 
+    /// How many words it has.
+    pub fn count(&self) -> usize {
+        self.0.len()
+    }
+
     pub fn apply(&self, memory: &mut [u32]) {
         for &(index, word) in &self.0 {
             memory[index] = word;

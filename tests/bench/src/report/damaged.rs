@@ -1,8 +1,11 @@
 //! The judge on damaged memories, beside the sound memory of the same scenario.
 
 use super::{ratio, Bar};
-use crate::damaged::damaged;
-use crate::measure::{Bench, Row, Times};
+use crate::builder::Step;
+use crate::call::JUDGE;
+use crate::damaged::{damaged, Damaged};
+use crate::measure::{Bench, Place, Row, Times};
+use crate::patch::Patch;
 use crate::scenario::Scenario;
 use crate::table::Table;
 
@@ -16,13 +19,18 @@ pub struct Damages {
 }
 
 impl Damages {
-    /// The judge on the sound memory is measured already.
-    pub fn of(scenario: &Scenario, sound: Row, bench: &mut Bench) -> Damages {
-        let damaged = damaged(&scenario.whole).into_iter().map(|damaged| {
-            let place = bench.memory(damaged.words);
-            let row = bench.judge(place);
-            assert_eq!(bench.answer(row), Err(1), "{}", damaged.name);
-            (damaged.name, row)
+    /// The judge is measured already on the sound memory, which is at the place. A damaged one has a place of its own where it differs in much.
+    pub fn of(scenario: &Scenario, sound: Row, place: Place, bench: &mut Bench) -> Damages {
+        let damaged = damaged(&scenario.whole).into_iter().map(|Damaged { name, words }| {
+            let before = Patch::between(&words, &scenario.whole);
+            let row = if before.count() < words.len() / 8 {
+                bench.add(&Step { call: JUDGE, before }, place)
+            } else {
+                let own = bench.memory(words);
+                bench.judge(own)
+            };
+            assert_eq!(bench.answer(row), Err(1), "{name}");
+            (name, row)
         });
         Damages { title: scenario.title(), damaged: damaged.collect(), sound }
     }

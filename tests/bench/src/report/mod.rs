@@ -123,7 +123,7 @@ impl Measured {
             if scenario.pages() <= MOST_WIPED {
                 wiping.push(Wiping::of(&scenario, &measured, place, bench));
             }
-            damages.push(Damages::of(&scenario, measured.judge, bench));
+            damages.push(Damages::of(&scenario, measured.judge, place, bench));
             calls.push(measured);
         }
         let stacks = stack::sizes(edition).iter().map(|&pages| Stack::measure(edition, pages)).collect();
