@@ -8,10 +8,13 @@ use crate::patch::Patch;
 use std::hint::black_box;
 use std::time::{Duration, Instant};
 
-/// How often a version is called before the other has its turn: the first call warms the caches.
+/// How often a version is called before the other has its turn: the first call warms the caches. A long memory needs some more until it is in them.
 const TURN: usize = 4;
-/// Calls on a memory of more words take so long that they are timed by the thread's processor time.
+const LONG_TURN: usize = 8;
+/// The most words of a memory that is not long. Calls on a long one take so long that they are timed by the thread's processor time, and in so many times
+/// the time of others, since other work on the machine changes what the caches hold of it.
 const SHORT: usize = 1 << 15;
+const LONG_SHARE: u32 = 4;
 
 /// Nanoseconds of a call in both versions.
 #[derive(Clone, Copy)]
@@ -41,6 +44,20 @@ struct Timed {
 }
 
 impl Timed {
+    fn turn(&self) -> usize {
+        match self.clock {
+            Clock::Passed => TURN,
+            Clock::Thread => LONG_TURN,
+        }
+    }
+
+    fn share(&self) -> u32 {
+        match self.clock {
+            Clock::Passed => 1,
+            Clock::Thread => LONG_SHARE,
+        }
+    }
+
     fn time(&mut self, version: fn(&Call, &mut [u32]) -> Answer, memory: &mut [u32]) -> Duration {
         let start = self.clock.now();
         let answer = version(black_box(&self.call), black_box(memory));
@@ -55,7 +72,7 @@ impl Timed {
         self.before.exchange(memory);
         let versions: [fn(&Call, &mut [u32]) -> Answer; 2] = [Call::proved, Call::ordinary];
         for (k, version) in versions.into_iter().enumerate() {
-            for _ in 0..TURN {
+            for _ in 0..self.turn() {
                 self.least[k] = self.least[k].min(self.time(version, memory));
             }
         }
@@ -112,14 +129,14 @@ impl Bench {
         self.add(&Step { call: JUDGE, before: Patch::default() }, place)
     }
 
-    /// Goes through all rows, at least once, for so long; each has about the same time.
+    /// Goes through all rows, at least once, for so long, each by its share of the time.
     pub fn run(&mut self, time: Duration) {
         let start = Instant::now();
         (self.passed, self.thread) = (Clock::Passed.cost(), Clock::Thread.cost());
-        let count = self.rows.len() as u32;
+        let shares: u32 = self.rows.iter().map(Timed::share).sum();
         loop {
             for timed in &mut self.rows {
-                if timed.spent * count <= start.elapsed() {
+                if timed.spent * shares <= start.elapsed() * timed.share() {
                     timed.turns(&mut self.memories[timed.place.0]);
                 }
             }
