@@ -14,7 +14,7 @@ fn main() -> ExitCode {
     };
     let report = Report::measure(Duration::from_secs(seconds));
     println!("{}. Times are in nanoseconds: the least of many single calls, the two versions in turn.", processor());
-    println!("The judge is the verdict of a memory.\n");
+    println!("The judge is the verdict of a memory. Pages are of 256 bytes, large ones of 4,096.\n");
     if markdown {
         report.short.iter().for_each(|table| print!("{}", table.markdown()));
     } else {

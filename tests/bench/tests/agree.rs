@@ -9,7 +9,7 @@ use second::make::make;
 use second::random::Random;
 use second::sound::sound;
 
-/// Editions and numbers of pages, and for one call of the first how few are made.
+/// An edition and a number of pages, and by what the number of calls is divided: more words take longer to compare.
 const SIZES: [(Edition, usize, usize); 11] = [
     (SMALL, 16, 1),
     (SMALL, 20, 1),
