@@ -40,6 +40,8 @@ struct Timed {
     changed: Patch,
     clock: Clock,
     least: [Duration; 2],
+    /// Its part of the time, and what it has had of it.
+    share: u32,
     spent: Duration,
 }
 
@@ -48,13 +50,6 @@ impl Timed {
         match self.clock {
             Clock::Passed => TURN,
             Clock::Thread => LONG_TURN,
-        }
-    }
-
-    fn share(&self) -> u32 {
-        match self.clock {
-            Clock::Passed => 1,
-            Clock::Thread => LONG_SHARE,
         }
     }
 
@@ -117,10 +112,10 @@ impl Bench {
         assert_eq!(answer, call.ordinary(other), "{call:?}");
         assert!(after == other, "{call:?}");
         let changed = Patch::between(memory, after);
-        let clock = if memory.len() > SHORT { Clock::Thread } else { Clock::Passed };
+        let (clock, share) = if memory.len() > SHORT { (Clock::Thread, LONG_SHARE) } else { (Clock::Passed, 1) };
         before.exchange(memory);
         let (least, spent) = ([Duration::MAX; 2], Duration::ZERO);
-        self.rows.push(Timed { call, answer, place, before, changed, clock, least, spent });
+        self.rows.push(Timed { call, answer, place, before, changed, clock, least, share, spent });
         Row(self.rows.len() - 1)
     }
 
@@ -129,14 +124,19 @@ impl Bench {
         self.add(&Step { call: JUDGE, before: Patch::default() }, place)
     }
 
+    /// Gives a row so many times as much of the time.
+    pub fn favour(&mut self, row: Row, times: u32) {
+        self.rows[row.0].share *= times;
+    }
+
     /// Goes through all rows, at least once, for so long, each by its share of the time.
     pub fn run(&mut self, time: Duration) {
         let start = Instant::now();
         (self.passed, self.thread) = (Clock::Passed.cost(), Clock::Thread.cost());
-        let shares: u32 = self.rows.iter().map(Timed::share).sum();
+        let shares: u32 = self.rows.iter().map(|timed| timed.share).sum();
         loop {
             for timed in &mut self.rows {
-                if timed.spent * shares <= start.elapsed() * timed.share() {
+                if timed.spent * shares <= start.elapsed() * timed.share {
                     timed.turns(&mut self.memories[timed.place.0]);
                 }
             }

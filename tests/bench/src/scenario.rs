@@ -47,6 +47,9 @@ impl Scenario {
     }
 }
 
+/// A tree in a memory of so many pages.
+pub type Recipe = fn(Edition, usize) -> Scenario;
+
 /// How a title tells the edition.
 pub fn prefix(edition: Edition) -> &'static str {
     if edition == LARGE {

@@ -8,8 +8,8 @@ use second::geometry::{Edition, LARGE};
 
 /// "per page within a factor 2 from 16 to 256"; with large pages from 16 to 4,096.
 const MOST: f64 = 2.0;
-
-type Recipe = fn(Edition, usize) -> Scenario;
+/// Times on several memories are compared, not of both versions on one: the least time has to be found on each.
+const FAVOUR: u32 = 4;
 
 /// The same shape at each size: kernel pages grow with the memory.
 const RECIPES: [Recipe; 3] = [deep, broad, bare];
@@ -37,8 +37,9 @@ impl Size {
     fn of(recipe: Recipe, edition: Edition, pages: usize, bench: &mut Bench) -> Size {
         let Scenario { name, whole, .. } = recipe(edition, pages);
         let (kernel, mappings, place) = (kernel_pages(&whole), mappings(&whole), bench.memory(whole));
-        let name = format!("{}{name}", prefix(edition));
-        Size { name, pages, kernel, mappings, judge: bench.judge(place) }
+        let (name, judge) = (format!("{}{name}", prefix(edition)), bench.judge(place));
+        bench.favour(judge, FAVOUR);
+        Size { name, pages, kernel, mappings, judge }
     }
 
     fn per_page(&self, bench: &Bench) -> f64 {

@@ -75,7 +75,7 @@ fn suffix(edition: Edition) -> &'static str {
 
 /// The trees on which all calls are measured.
 fn scenarios(edition: Edition) -> Vec<Scenario> {
-    let recipes: &[(fn(Edition, usize) -> Scenario, usize)] = if edition == LARGE {
+    let recipes: &[(Recipe, usize)] = if edition == LARGE {
         &[
             (one_child, 16),
             (deep, 256),
