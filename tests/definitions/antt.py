@@ -2,7 +2,7 @@
 
 It reads the very files that the proofs are about, so that the definitions themselves are tried. Types, records and
 proofs are passed over; a definition is translated when it is first asked for."""
-import os, re
+import itertools, os, random, re
 
 CRATES = os.path.join(os.path.dirname(os.path.abspath(__file__)), '..', '..', 'crates')
 INFIX = {'||': (30, 'l'), '&&': (35, 'l'), '+': (65, 'l'), '-': (65, 'l'), '++': (65, 'l'), '∷': (67, 'r'), 'when': (68, 'n'),
@@ -13,6 +13,8 @@ def ap(f, *args):
     """f applied to args, however many it takes."""
     while args:
         n = f.__code__.co_argcount
+        if len(args) == n:
+            return f(*args)
         if len(args) < n:
             first = args
             rest = ', '.join('x%d' % i for i in range(n - len(first)))
@@ -52,6 +54,31 @@ def tabulate(i, n, f):
     return [ap(f, i + k) for k in range(n)]
 
 
+def one_argument(f):
+    """f as a Python function of one argument."""
+    return f if f.__code__.co_argcount == 1 else lambda x: ap(f, x)
+
+
+def all_of(f, xs):
+    return all(map(one_argument(f), xs))
+
+
+def any_of(f, xs):
+    return any(map(one_argument(f), xs))
+
+
+def keep(f, xs):
+    return list(filter(one_argument(f), xs))
+
+
+def image(g, xs):
+    return list(map(one_argument(g), xs))
+
+
+def flat(f, xs):
+    return [y for x in xs for y in ap(f, x)]
+
+
 # what the definitions take from the toolchain's libraries
 LIBRARY = {
     'length': len, 'getD': lambda xs, i, d: xs[i] if i < len(xs) else d, 'set': set_at, 'take': lambda n, xs: xs[:n],
@@ -60,8 +87,10 @@ LIBRARY = {
 }
 LIBRARY['length'] = lambda xs: len(xs)
 CONSTANTS = {'true': 'True', 'false': 'False', '[]': '[]', 'zero': '0', 'none': "('none',)"}
-# long recursions of crates/memory/specs/Words.antt, done at once; check_shortcuts holds them to the text
-SHORTCUTS = {('memory', 'Words', 'overwrite'): overwrite, ('memory', 'Words', 'tabulate'): tabulate}
+# long recursions over a list or up to a number, done at once; check_shortcuts holds them to the text
+SHORTCUTS = {('memory', 'Words', 'overwrite'): overwrite, ('memory', 'Words', 'tabulate'): tabulate, ('walk', 'Finite', 'from'): lambda n, i: range(i, i + n),
+             ('walk', 'Finite', 'all'): all_of, ('walk', 'Finite', 'any'): any_of, ('walk', 'Finite', 'keep'): keep, ('walk', 'Finite', 'image'): image,
+             ('walk', 'Lists', 'flat'): flat}
 
 
 def tokens(text):
@@ -81,7 +110,8 @@ class Module:
             if not l.strip():
                 continue
             depth = len(l) - len(l.lstrip())
-            if chunks and depth > chunks[-1][0] and not re.match(r'\s*(pub |unfoldable |abbrev |module |data |record )', l) and not chunks[-1][1].startswith('module'):
+            begins = re.match(r'\s*(pub |unfoldable |abbrev |module |data |record )', l)
+            if chunks and depth > chunks[-1][0] and not begins and not chunks[-1][1].startswith('module'):
                 chunks[-1][1] += ' ' + l.strip()
                 chunks[-1][2].append(l)
             else:
@@ -123,6 +153,8 @@ class Module:
 class Program:
     def __init__(self):
         self.modules, self.functions = {}, {}
+        self.shortcuts = dict(SHORTCUTS)
+        self.shortcuts['rules', 'Effects', 'releaseAll'] = lambda b, n, i, m, d, c: release_all(self, b, n, i, m, d, c)
 
     def module(self, crate, name):
         if (crate, name) not in self.modules:
@@ -137,8 +169,8 @@ class Program:
     def get(self, crate, name, symbol, text_only=False):
         """The Python function of a definition (a value, where it takes no argument)."""
         key = (crate, name, symbol)
-        if not text_only and key in SHORTCUTS:
-            return SHORTCUTS[key]
+        if not text_only and key in self.shortcuts:
+            return self.shortcuts[key]
         if key not in self.functions:
             self.functions[key] = None
             self.functions[key] = Translation(self, self.module(crate, name), symbol).function()
@@ -275,7 +307,7 @@ class Translation:
             op = self.next()
             level, side = INFIX[op]
             right = self.expression(level if side == 'r' else level + 1, bound)
-            left = {'+': '(%s + %s)', '++': '(%s + %s)', '*': '(%s * %s)', '^': '(%s ** %s)', '-': 'max(0, %s - %s)', '∷': '([%s] + %s)',
+            left = {'+': '(%s + %s)', '++': '(%s + %s)', '*': '(%s * %s)', '^': '(%s ** %s)', '-': 'max(0, %s - %s)', '∷': '[%s, *%s]',
                     '/': 'div(%s, %s)', '%': 'mod(%s, %s)',
                     '&&': '(%s and %s)', '||': '(%s or %s)', 'when': "('when', %s, %s)", 'is': "('is', %s, %s)"}[op] % (left, right)
         return left
@@ -286,6 +318,11 @@ class Translation:
             self.next()
             t, x, y = self.atom(bound), self.atom(bound), self.atom(bound)
             return '(%s if %s else %s)' % (x, t, y)
+        if head == 'pass' and self.module.imports.get(head) == ('rules', 'Row'):
+            # what a call that is refused would have changed is not computed
+            self.next()
+            n, x, y = self.atom(bound), self.atom(bound), self.atom(bound)
+            return '(%s if %s == 0 else %s)' % (x, n, y)
         if head == 'elim':
             self.next()
             t = self.atom(bound)
@@ -339,6 +376,7 @@ class Translation:
             return self.value(*m.imports[t], t, [])
         if t in LIBRARY:
             self.globals['lib_' + t] = LIBRARY[t]
+            self.arities['lib_' + t] = LIBRARY[t].__code__.co_argcount
             return 'lib_' + t
         raise NameError('%s in %s of %s' % (t, self.symbol, m.name))
 
@@ -354,11 +392,27 @@ class Translation:
             names = ', '.join('x%d' % i for i in range(arity))
             scope[key] = eval('lambda %s: first_use(%s)' % (names, names), {'first_use': first_use}) if arity else program.get(crate, name, symbol)
         self.arities[key] = arity
+        if given and len(given) == arity:
+            return '%s(%s)' % (key, ', '.join(given))
         return 'ap(%s)' % ', '.join([key] + given) if given else key
 
 
+def release_all(program, b, n, i, m, d, c):
+    """releaseAll, by the text for each virtual page, but that those without a shadow 1 table are passed over: their words there count as 0, which is not c."""
+    step = program.get('rules', 'Effects', 'releaseAll', text_only=True)
+    shadow1, table_at = program.get('memory', 'Partition', 'shadow1'), program.get('memory', 'Partition', 'tableAt')
+    end = i + n
+    while i < end:
+        if c and table_at(b, m, shadow1(b, m, d), i) == 0:
+            i += 2 ** b - i % 2 ** b
+        else:
+            m = step(b, 1, i, m, d, c)
+            i += 1
+    return m
+
+
 def check_shortcuts(program):
-    """The shortcuts give what the text gives, on lists short enough for the text."""
+    """The shortcuts give what the text gives, on lists short enough for the text and at narrow widths. What the text leaves for later is again a shortcut."""
     text = program.get('memory', 'Words', 'overwrite', text_only=True)
     for n in range(6):
         for i in range(7):
@@ -368,3 +422,25 @@ def check_shortcuts(program):
     text = program.get('memory', 'Words', 'tabulate', text_only=True)
     for n in range(9):
         assert ap(text, 3, n, lambda x: 7 * x) == tabulate(3, n, lambda x: 7 * x)
+    text = program.get('rules', 'Row', 'pass', text_only=True)
+    assert [text(n, 'changed', 'same') for n in range(20)] == ['changed'] + ['same'] * 19
+    lists = [list(xs) for n in range(5) for xs in itertools.product(range(3), repeat=n)]
+    for name, f in ('all', lambda x: x > 0), ('any', lambda x: x > 1), ('keep', lambda x: x != 1), ('image', lambda x: 2 * x + 1):
+        text, shortcut = program.get('walk', 'Finite', name, text_only=True), SHORTCUTS['walk', 'Finite', name]
+        for xs in lists:
+            assert text(f, xs) == shortcut(f, xs), (name, xs)
+    text, repeated = program.get('walk', 'Lists', 'flat', text_only=True), lambda x: [x] * x
+    for xs in lists:
+        assert text(repeated, xs) == flat(repeated, xs), xs
+    text = program.get('walk', 'Finite', 'from', text_only=True)
+    for n in range(6):
+        assert text(n, 3) == list(range(3, 3 + n))
+    # memories of 12 pages with 4 words each, most words addresses of pages or of tables, or 0
+    text, changed, r = program.get('rules', 'Effects', 'releaseAll', text_only=True), 0, random.Random(5)
+    for _ in range(3000):
+        m = [r.choice([0, 0, 16 * r.randrange(12), 16 * r.randrange(12) + r.choice([1, 3, 31])]) for _ in range(48)]
+        i, d, c = r.randrange(16), r.randrange(12), 16 * r.randrange(5)
+        after = release_all(program, 2, 16 - i, i, m, d, c)
+        assert text(2, 16 - i, i, m, d, c) == after, (i, m, d, c)
+        changed += after != m
+    assert changed > 100, changed

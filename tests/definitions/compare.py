@@ -2,14 +2,15 @@
 
   python3 tests/definitions/compare.py [--quick]
 
-Guided random calls at several sizes: answer and a hash of every word after each call. Changed words of a memory in use: the verdict on
-soundness. The slips of slips.txt, every refusal that the memory at their start can give, and scripts for replay, good and bad. Prints what was compared;
-exits with 1 at the first difference."""
-import itertools, os, random, subprocess, sys, threading
+T and F at every page count. Guided random calls at several sizes of both editions, and with changes from one to the other: answer and a hash of every word
+after each call. Changed words of a memory in use: the verdict on soundness. The slips of slips.txt and every refusal that the memory at their start can give,
+in both editions; the last virtual page of large.txt; and scripts for replay, good and bad. Prints what was compared; exits with 1 at the first difference."""
+import array, itertools, os, random, subprocess, sys, threading
 
 from antt import Program, ap, check_shortcuts
 
 HERE = os.path.dirname(os.path.abspath(__file__))
+WORDS = [64, 1024]  # of a page, by edition
 NAMES = ['formatAll', 'createPartition', 'deletePartition', 'addVAddr', 'removeVAddr', 'pageCount', 'prepare', 'collect', 'mappedInChild',
          'enter', 'leave', 'load', 'store']
 MORNING = [20, 15, 12, 1, 256, 512, 768, 1024, 1280, 5, 256, 4096, 12, 1536, 1792, 12, 1792, 2048, 6, 256, 4096, 1536, 3, 2304, 256, 4096, 3,
@@ -22,33 +23,71 @@ def differ(what, ours, theirs):
 
 
 def fingerprint(memory):
-    h = 0xcbf29ce484222325
-    for byte in b''.join(w.to_bytes(4, 'little') for w in memory):
-        h = ((h ^ byte) * 0x100000001b3) & 0xffffffffffffffff
+    """64-bit FNV-1a over the words as little-endian bytes; a byte 0 only multiplies."""
+    h, zeros = 0xcbf29ce484222325, 0
+    for w in memory + [None]:
+        if w == 0:
+            zeros += 4
+            continue
+        h, zeros = h * pow(0x100000001b3, zeros, 2 ** 64) % 2 ** 64, 0
+        for byte in w.to_bytes(4, 'little') if w else b'':
+            h = (h ^ byte) * 0x100000001b3 % 2 ** 64
     return '%016x' % h
+
+
+def remembered(f, most):
+    """f of a width and a memory, for so many memories: they are lists that nobody changes. A call's answer and its effect ask soundness of the same one."""
+    last, known = [None, None, None], {}
+
+    def it(b, m):
+        if last[0] is not m or last[1] != b:
+            key = b, array.array('I', m).tobytes()
+            if len(known) > most:
+                known.clear()
+            if key not in known:
+                known[key] = f(b, m)
+            last[:] = m, b, known[key]
+        return last[2]
+    return it
+
+
+def by_partition(f):
+    """f of a width, a memory and a partition, remembered for the last memory."""
+    last, known = [None], {}
+
+    def it(b, m, d):
+        if last[0] is not m:
+            last[0] = m
+            known.clear()
+        if (b, d) not in known:
+            known[b, d] = f(b, m, d)
+        return known[b, d]
+    return it
 
 
 class Definitions:
     def __init__(self):
         self.program = Program()
         check_shortcuts(self.program)
-        sound, seen = self.program.get('soundness', 'Test', 'soundTest'), {}
-        # a call's answer and its effect ask soundness of the same memory
-        def once(b, m):
-            key = tuple(m)
-            if key not in seen:
-                seen.clear()
-                seen[key] = sound(b, m)
-            return seen[key]
-        self.program.functions['soundness', 'Test', 'soundTest'] = self.sound = once
+        self.sound = remembered(self.program.get('soundness', 'Test', 'soundTest'), 40)
+        self.program.functions['soundness', 'Test', 'soundTest'] = self.sound
+        self.program.functions['memory', 'Counts', 'tabled'] = by_partition(self.program.get('memory', 'Counts', 'tabled'))
+        self.width = self.program.get('memory', 'Edition', 'width')
         self.answer = self.program.get('rules', 'Editions', 'answer')
         self.after = self.program.get('rules', 'Editions', 'after')
         self.replay = self.program.get('rules', 'Replay', 'replay')
+        self.hashed = [None, None]
+
+    def passes(self, memory, numbers):
+        return ap(self.answer, memory, (NAMES[numbers[0]],) + tuple(numbers[1:]))[0] == 'ok'
 
     def call(self, memory, numbers):
+        """The answer with a hash of the memory after the call, and that memory."""
         c = (NAMES[numbers[0]],) + tuple(numbers[1:])
-        answer = ap(self.answer, memory, c)
-        return '%s %d' % answer, ap(self.after, memory, c)
+        answer, memory = ap(self.answer, memory, c), ap(self.after, memory, c)
+        if self.hashed[0] is not memory:
+            self.hashed = [memory, fingerprint(memory)]
+        return '%s %d %s' % (answer + (self.hashed[1],)), memory
 
 
 def second(*args, stdin=b''):
@@ -57,59 +96,99 @@ def second(*args, stdin=b''):
 
 def run_file(definitions, lines):
     """The lines that the second program's `run` prints, by the definitions; and the memory at the end."""
-    n = int(lines[0])
-    memory = [i * 2654435761 % 2 ** 32 for i in range(64 * n)]
+    n, edition = map(int, lines[0].split())
+    memory = [i * 2654435761 % 2 ** 32 for i in range(WORDS[edition] * n)]
     out = []
-    for line in ['0 0'] + lines[1:]:
+    for line in ['0 %d' % edition] + lines[1:]:
         said, memory = definitions.call(memory, [int(x) for x in line.split()])
-        out.append('%s %s' % (said, fingerprint(memory)))
+        out.append(said)
     return out, memory
 
 
-def compare_calls(definitions, seed, count, n):
-    text = second('make', seed, count, n)
-    lines = text.decode().split('\n')[:-1]
-    ours, memory = run_file(definitions, lines)
-    theirs = second('run', stdin=text).decode().split('\n')[:-1]
+def compare_lines(what, lines, ours):
+    """Holds what the definitions say to what the second program does."""
+    theirs = second('run', stdin=('\n'.join(lines) + '\n').encode()).decode().split('\n')[:-1]
     for i, (a, b) in enumerate(zip(ours, theirs)):
         if a != b:
-            differ('seed %d, N %d, call %d: %s' % (seed, n, i, (['0 0'] + lines[1:])[i]), a, b)
+            differ('%s, call %d: %s' % (what, i, lines[i] if i else 'format'), a, b)
     if len(ours) != len(theirs):
-        differ('lengths', len(ours), len(theirs))
-    kinds = {}
+        differ('%s: lengths' % what, len(ours), len(theirs))
+
+
+def compare_sizes(definitions):
+    """T and F by the definitions at every page count of either edition, and no count besides."""
+    number = 0
+    for edition in 0, 1:
+        get = lambda name: definitions.program.get('memory', 'Geometry', name)
+        b = ap(get('widthOf'), edition)
+        counts = range(get('leastPages'), ap(get('mostPages'), b) + 1)
+        ours = ['%d %d %d' % (n, ap(get('threesFor'), b, n), ap(get('flatPages'), b, n)) for n in counts]
+        theirs = second('sizes', edition).decode().split('\n')[:-1]
+        if ours != theirs:
+            differ('sizes of edition %d' % edition, [a for a, t in zip(ours, theirs) if a != t][:3], [t for a, t in zip(ours, theirs) if a != t][:3])
+        number += len(ours)
+    return number
+
+
+def made(seed, count, n, edition):
+    return second('make', seed, count, n, edition).decode().split('\n')[:-1]
+
+
+def compare_calls(definitions, total, what, parts):
+    """Guided calls: for each part its seed, how many, N and edition. A part after the first begins with the format that changes the edition."""
+    lines = made(*parts[0])
+    for part in parts[1:]:
+        lines += ['0 2', '0 %d' % part[3]] + made(*part)[1:]
+    ours, memory = run_file(definitions, lines)
+    compare_lines(what, lines, ours)
     for line, said in zip(['0'] + lines[1:], ours):
         key = NAMES[int(line.split()[0])], said.split()[0] + (' ' + said.split()[1] if said[0] == 'n' else '')
-        kinds[key] = kinds.get(key, 0) + 1
-    return text, memory, kinds
+        total[key] = total.get(key, 0) + 1
+    return lines, memory
 
 
-def compare_damage(definitions, text, memory, seed, count):
+def compare_damage(definitions, lines, memory, seed, count):
     verdicts = {}
+    text = ('\n'.join(lines) + '\n').encode()
     for line in second('damage', seed, count, 'wide', stdin=text).decode().split('\n')[:-1]:
         *changes, verdict = line.replace('broken ', 'broken').split()
         m = list(memory)
         for i in range(0, len(changes), 2):
             m[int(changes[i])] = int(changes[i + 1])
-        ours = ap(definitions.sound, 6, m)
+        ours = definitions.sound(ap(definitions.width, m), m)
         if ours != (verdict == 'sound'):
             differ('damage %s' % line, ours, verdict)
         verdicts[verdict] = verdicts.get(verdict, 0) + 1
-    return verdicts
+    return ', '.join('%s %d' % kv for kv in sorted(verdicts.items()))
 
 
-def compare_slips(definitions):
-    lines = [l.strip() for l in open(os.path.join(HERE, 'slips.txt')) if l.strip() and l[0] != '#']
-    calls, wanted = [lines[0]], ['ok 0']
-    for l in lines[1:]:
-        c, a = l.split(' = ')
-        calls.append(c)
-        wanted.append(a)
-    ours, _ = run_file(definitions, calls)
-    theirs = second('run', stdin=('\n'.join(calls) + '\n').encode()).decode().split('\n')[:-1]
-    for c, w, a, b in zip(['0'] + calls[1:], wanted, ours, theirs):
-        if not a.startswith(w + ' ') or a != b:
-            differ('slips: %s (wanted %s)' % (c, w), a, b)
-    return len(wanted)
+def scaled(edition, x):
+    """An address with small pages as the one with large pages that has the same two indices and place; what is more than 2^20 stays."""
+    return (x >> 14 << 22) + (x >> 8 & 63) * 4096 + x % 256 if edition and x <= 2 ** 20 else x
+
+
+def scaled_line(edition, line):
+    return ' '.join(w if w in ('ok', 'no', '=') else str(scaled(edition, int(w))) for w in line.split())
+
+
+def listed(name, edition, adapted=lambda line: line):
+    """Of a file of calls and answers: N with the edition, and the pairs of both."""
+    lines = [l.strip() for l in open(os.path.join(HERE, name)) if l.strip() and l[0] != '#']
+    return '%s %d' % (lines[0], edition), [adapted(l).split(' = ') for l in lines[1:]]
+
+
+def slips(edition):
+    return listed('slips.txt', edition, lambda line: scaled_line(edition, line))
+
+
+def compare_listed(definitions, what, first, calls):
+    lines = [first] + [c for c, _ in calls]
+    ours, _ = run_file(definitions, lines)
+    for (c, wanted), said in zip(calls, ours[1:]):
+        if not said.startswith(wanted + ' '):
+            differ('%s: %s' % (what, c), said, wanted)
+    compare_lines(what, lines, ours)
+    return len(lines)
 
 
 # The memory at the start of slips.txt, with six pages more lent to the child, two of them without write or read. For each call arguments that pass but where
@@ -119,13 +198,14 @@ LENT = ['3 4608 256 6400 1', '3 4864 256 6656 2', '3 5120 256 6912 7', '3 5376 2
 PASSING = {1: [[6144, 6400, 6656, 6912, 7168], [6912, 7168, 7424, 7680, 6400]], 2: [[256], [4096]], 3: [[7424, 256, 8448, 7], [7424, 4096, 8448, 1]],
            4: [[256, 7680], [4096, 8192]], 5: [[256, 8192], [4096, 8192]], 6: [[256, 16384, 7168], [4096, 16384, 6912]], 7: [[256, 4096], [4096, 8192]],
            8: [[4608], [4096]], 9: [[256], [4096]], 11: [[7168], [6912]], 12: [[7168, 7424], [6912, 7168]]}
-PAGES = [0, 300, 1048576, 1044480, 256, 512, 2304, 4352, 4096, 5376, 6144, 6400, 6656, 7168, 7936, 8192]
-CHILDREN, TARGETS, RIGHTS, WORDS = [256, 4096, 512, 0, 1048576], [4096, 6144, 8192, 8448, 16384, 257, 0], [0, 1, 4, 7, 8, 4294967295], [0, 7168, 7424]
+PAGES = [0, 300, 1048576, 1044480, 4294963200, 256, 512, 2304, 4352, 4096, 5376, 6144, 6400, 6656, 7168, 7936, 8192]
+CHILDREN, TARGETS = [256, 4096, 512, 0, 1048576, 4294963200], [4096, 6144, 8192, 8448, 16384, 4294963200, 257, 0]
+RIGHTS, STORED = [0, 1, 4, 7, 8, 4294967295], [0, 7168, 7424]
 KINDS = {1: [PAGES] * 5, 2: [CHILDREN], 3: [PAGES, CHILDREN, TARGETS, RIGHTS], 4: [CHILDREN, TARGETS], 5: [CHILDREN, TARGETS], 6: [CHILDREN, TARGETS, PAGES],
-         7: [CHILDREN, TARGETS], 8: [PAGES], 9: [CHILDREN], 11: [PAGES + [4, 6914]], 12: [PAGES + [4, 6914], WORDS]}
-# The call that undoes one that passed.
-UNDONE = {1: lambda given: [2, given[0]], 3: lambda given: [4, given[1], given[2]], 4: lambda given: [3] + AGAIN[given[0]],
-          6: lambda given: [7, given[0], given[1]], 9: lambda given: [10]}
+         7: [CHILDREN, TARGETS], 8: [PAGES], 9: [CHILDREN], 11: [PAGES + [4, 6914]], 12: [PAGES + [4, 6914], STORED]}
+# What undoes a call that passed, by its number and arguments; a page that was removed is lent to its child again.
+UNDONE = {1: lambda given, again: [2, given[0]], 3: lambda given, again: [4, given[1], given[2]], 4: lambda given, again: [3] + again[given[0]],
+          6: lambda given, again: [7, given[0], given[1]], 9: lambda given, again: [10]}
 AGAIN = {256: [5888, 256, 7680, 7], 4096: [6144, 4096, 8192, 1]}
 # What each call has to be refused with; 1 and 2 are given for memories and lengths that are not sound, 10 and 13 need ten threes and eight levels.
 REFUSED = {1: [3, 4, 7, 6], 2: [3, 5], 3: [3, 6, 5, 7, 8, 9], 4: [3, 5, 8, 15, 7], 5: [3, 5], 6: [3, 5, 9, 11, 7, 6], 7: [3, 5, 8, 12], 8: [3, 15], 9: [3, 5],
@@ -142,44 +222,45 @@ def varied(number, passing, places):
             yield [number] + given
 
 
-def compare_refusals(definitions, each):
-    """In the root and in its child: every call with one argument changed, and so many with two. collect and deletePartition come last: what they do is not
-    undone."""
-    lines = [line.split(' = ')[0].strip() for line in open(os.path.join(HERE, 'slips.txt')) if line.strip() and line[0] != '#']
-    lines = lines[:lines.index('10') + 1] + LENT
+def compare_refusals(definitions, edition, pairs, most):
+    """In the root and in its child: every call with one argument changed, and so many with two; those that pass, which take longest, up to so many of each.
+    collect and deletePartition come last: what they do is not undone."""
+    first, calls = slips(edition)
+    calls = [c for c, _ in calls]
+    lines = [first] + calls[:calls.index('10') + 1] + [scaled_line(edition, line) for line in LENT]
     out, memory = run_file(definitions, lines)
     r = random.Random(11)
 
-    def made(call):
+    def make(call):
         nonlocal memory
         said, memory = definitions.call(memory, call)
         lines.append(' '.join(map(str, call)))
-        out.append('%s %s' % (said, fingerprint(memory)))
+        out.append(said)
         return said.startswith('ok')
 
     def tried(caller, *numbers):
         for number in numbers:
-            pairs = list(varied(number, PASSING[number][caller], 2))
-            for call in list(varied(number, PASSING[number][caller], 1)) + r.sample(pairs, min(each, len(pairs))):
-                if made(call) and number in UNDONE:
-                    made(UNDONE[number](call[1:]))
+            one, two = (list(varied(number, PASSING[number][caller], places)) for places in (1, 2))
+            passed = 0
+            for call in one + r.sample(two, min(pairs, len(two))):
+                call = [number] + [scaled(edition, x) for x in call[1:]]
+                if (passed < most or not definitions.passes(memory, call)) and make(call):
+                    passed += 1
+                    if number in UNDONE:
+                        make(UNDONE[number](call[1:], again))
 
+    again = {scaled(edition, child): [scaled(edition, x) for x in given] for child, given in AGAIN.items()}
     undone = 5, 8, 11, 12, 1, 3, 4, 6, 9
     tried(0, *undone)
-    made([9, 256])
+    make([9, scaled(edition, 256)])
     tried(1, *undone, 7, 2)
-    made([10]), made([10])
+    make([10]), make([10])
     tried(0, 7, 2)
-    theirs = second('run', stdin=('\n'.join(lines) + '\n').encode()).decode().split('\n')[:-1]
-    given = set()
-    for call, a, b in zip(['0'] + lines[1:], out, theirs):
-        if a != b:
-            differ('refusals: %s' % call, a, b)
-        if a.startswith('no '):
-            given.add((int(call.split()[0]), int(a.split()[1])))
+    compare_lines('refusals of edition %d' % edition, lines, out)
+    given = {(int(call.split()[0]), int(said.split()[1])) for call, said in zip(['0'] + lines[1:], out) if said.startswith('no ')}
     missing = [(number, n) for number, ns in REFUSED.items() for n in ns if (number, n) not in given]
     if missing:
-        differ('refusals that did not occur', sorted(given), missing)
+        differ('refusals of edition %d that did not occur' % edition, sorted(given), missing)
     return len(lines)
 
 
@@ -218,19 +299,30 @@ def compare_replay(definitions):
     return n
 
 
+# The guided calls: for each sequence its parts (seed, number, N, edition), and how many changed memories follow. The last ones change the edition.
+QUICK = [([(1, 150, 16, 0)], 60), ([(2, 300, 20, 0)], 60), ([(3, 300, 40, 0)], 60), ([(6, 40, 16, 1)], 20), ([(7, 30, 20, 1)], 20),
+         ([(8, 12, 16, 1), (9, 25, 256, 0), (10, 12, 16, 1)], 15)]
+FULL = [([(1, 300, 16, 0)], 300), ([(2, 600, 20, 0)], 300), ([(3, 600, 40, 0)], 300), ([(4, 400, 73, 0)], 300), ([(5, 150, 140, 0)], 300),
+        ([(6, 250, 16, 1)], 100), ([(7, 250, 20, 1)], 100), ([(11, 150, 33, 1)], 60),
+        ([(8, 40, 16, 1), (9, 80, 256, 0), (10, 40, 16, 1), (12, 80, 256, 0), (13, 40, 16, 1)], 60)]
+
+
 def main():
     quick = '--quick' in sys.argv
     d = Definitions()
-    print('slips: %d calls agree' % compare_slips(d))
-    print('refusals: %d calls agree' % compare_refusals(d, 60 if quick else 300))
+    print('sizes: %d page counts agree' % compare_sizes(d))
+    for edition in 0, 1:
+        print('edition %d: slips: %d calls agree' % (edition, compare_listed(d, 'slips of edition %d' % edition, *slips(edition))))
+        pairs, most = ((60, 1000), (20, 1))[edition] if quick else ((300, 1000), (100, 20))[edition]
+        print('edition %d: refusals: %d calls agree' % (edition, compare_refusals(d, edition, pairs, most)))
+    print('edition 1: the last virtual page: %d calls agree' % compare_listed(d, 'large.txt', *listed('large.txt', 1)))
     print('replay: %d scripts agree' % compare_replay(d))
     total = {}
-    for seed, count, n in [(1, 150, 16), (2, 300, 20), (3, 300, 40)] if quick else [(1, 300, 16), (2, 600, 20), (3, 600, 40), (4, 400, 73), (5, 150, 140)]:
-        text, memory, kinds = compare_calls(d, seed, count, n)
-        verdicts = compare_damage(d, text, memory, seed, 60 if quick else 300)
-        print('N %d: %d calls agree; changed memories agree: %s' % (n, count, ', '.join('%s %d' % kv for kv in sorted(verdicts.items()))))
-        for k, v in kinds.items():
-            total[k] = total.get(k, 0) + v
+    for parts, changed in QUICK if quick else FULL:
+        what = ', '.join('N %d edition %d' % part[2:] for part in parts)
+        lines, memory = compare_calls(d, total, what, parts)
+        verdicts = compare_damage(d, lines, memory, parts[0][0], changed)
+        print('%s: %d calls agree; changed memories agree: %s' % (what, len(lines), verdicts))
     print('calls by answer:')
     for name in NAMES:
         print('  %-16s %s' % (name, ', '.join('%s: %d' % (a, v) for (c, a), v in sorted(total.items()) if c == name)))

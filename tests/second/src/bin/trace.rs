@@ -3,7 +3,7 @@
 use second::calls::{call, ARGUMENTS};
 use second::cover::Cover;
 use second::damage::{damage, wide_damage};
-use second::geometry::Edition;
+use second::geometry::{Edition, Sizes};
 use second::make::make;
 use second::random::Random;
 use second::record;
@@ -14,7 +14,7 @@ use std::io::{self, BufWriter, Read, Write};
 
 const USAGE: &str =
     "trace run | trace make SEED COUNT N [EDITION] | trace cover | trace damage SEED COUNT [wide] | trace replay | trace dump \
-    | trace judge | trace runs [cover]";
+    | trace judge | trace sizes EDITION | trace runs [cover]";
 
 struct File {
     pages: usize,
@@ -36,6 +36,7 @@ fn main() {
         ["replay"] => print_replayed(&mut out),
         ["dump"] => read().and_then(|file| dump(&file, &mut out)),
         ["judge"] => print_broken(&mut out),
+        ["sizes", chosen] => print_sizes(chosen, &mut out),
         ["runs"] => print_runs(false, &mut out),
         ["runs", "cover"] => print_runs(true, &mut out),
         _ => Err(io::Error::other(USAGE)),
@@ -56,6 +57,13 @@ fn print_replayed(out: &mut impl Write) -> io::Result<()> {
 /// The broken sentences of the memory on standard input, little-endian words.
 fn print_broken(out: &mut impl Write) -> io::Result<()> {
     writeln!(out, "{:?}", broken(&read_words()?))
+}
+
+/// N, T and F for every N that the edition has.
+fn print_sizes(chosen: &str, out: &mut impl Write) -> io::Result<()> {
+    let edition = edition(chosen)?;
+    let sizes = (0..2 * edition.most_pages()).filter_map(|pages| Sizes::of_pages(edition, pages));
+    sizes.into_iter().try_for_each(|sizes| writeln!(out, "{} {} {}", sizes.pages, sizes.threes, sizes.free))
 }
 
 /// Standard input as little-endian words.
