@@ -1,4 +1,5 @@
 pub mod Tests
+pub mod Places
 pub mod Loops
 pub mod Indices
 pub mod Formatted

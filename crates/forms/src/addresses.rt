@@ -3,6 +3,8 @@ use pages::PhysicalPage;
 use pages::frame;
 use pages::index;
 use pages::page_of;
+use pages::place;
+use pages::virtual_page;
 ghost use mathlib.Core.Path.{_≡_};
 ghost use lib.Dec.{ltb, eqb};
 ghost use Rattle.memory.specs.Geometry.{address, pageOf};
@@ -18,15 +20,16 @@ pub fn in_memory(b: u32, m: &[u32], w: u32) -> bool
     page_of(b, w).0 < pages::pages(b, m)
 }
 
-// v is the address of a virtual page: "a virtual address has 20 bits". The end is 2^32 at width 10, so it is compared in 64 bits.
+// v is the address of a virtual page: "a virtual address has 20 bits". Its place is 0, and its page number has no bit above the two indices. The judge
+// asks this of every mapping: it takes a mask and two shifts, and the lookup that follows needs the page number too.
 pub fn virtual_address(b: u32, v: u32) -> bool
     requires { ⌜ Width b ⌝ }
     ensures { λ r. ⌜ r ≡ virtual b v ⌝ }
 {
-    if frame(b, v) != v {
+    if place(b, v) != 0 {
         return false;
     }
-    (v as u64) < (1u64 << (3 * b + 2))
+    virtual_page(b, v).0 >> (2 * b) == 0
 }
 
 // a is the address of a physical page: "a physical address is 256k".

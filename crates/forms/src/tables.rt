@@ -1,10 +1,8 @@
 // "the words have the forms above": the words of a directory and of the tables.
 use crate::addresses::in_memory;
 use crate::own::Three;
-use pages::accessible;
-use pages::entry_of;
 use pages::frame;
-use pages::rights;
+use pages::place;
 ghost use mathlib.Core.Path.{_≡_};
 ghost use Rattle.soundness.specs.Test.{tableLink};
 ghost use Rattle.judging.specs.Quick.{entryTest};
@@ -51,12 +49,13 @@ pub fn three_links(b: u32, m: &[u32], t: Three) -> bool
     table_link(b, m, t.2)
 }
 
-// "physical address + 1 + 2·accessible + 4·rights"
+// "physical address + 1 + 2·accessible + 4·rights": of the bits below the page's size, but for accessible and rights (bits 1 to 4), just the lowest is
+// set. The mask is 2^32 − 1 − 30; the judge asks this of every mapping.
 pub fn entry_test(b: u32, m: &[u32], w: u32) -> bool
     requires { ⌜ Width b ⌝ }
     ensures { λ r. ⌜ r ≡ entryTest b (now (m .entry)) w ⌝ }
 {
-    if entry_of(b, w, accessible(w), rights(w)) != w {
+    if place(b, w) & 4294967265 != 1 {
         return false;
     }
     in_memory(b, m, w)
