@@ -3,3 +3,4 @@ pub mod Run
 pub mod Rows
 pub mod Blocks
 pub mod Bits
+pub mod Alone

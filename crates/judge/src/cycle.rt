@@ -1,4 +1,5 @@
 // "Judging a partition asks the same of its children, and judging its children asks it of each partition: the depth left falls."
+use crate::cells::cells_test;
 use crate::children::next_child;
 use crate::partitions::judge_alone;
 use crate::rows::next_word;
@@ -19,7 +20,8 @@ ghost use Rattle.judging.specs.Quick.{partitionTest};
 ghost use Rattle.judge.specs.Bits.{marksIn};
 ghost use Rattle.pages.specs.Width.{Width};
 
-// A partition with left levels below it. Each child has kernel pages, so that where none are due there is no child to look for.
+// A partition with left levels below it. The counts come before the cells, so that a partition with more children than its tables have room for is not
+// looked at further. Each child has kernel pages, so that where none are due there is no child to look for.
 pub fn judge_partition(b: u32, m: &[u32], seen: &mut [u32], d: PhysicalPage, left: u32) -> bool
     requires { ⌜ Width b ⌝ }
     ensures { λ r.
@@ -30,6 +32,9 @@ pub fn judge_partition(b: u32, m: &[u32], seen: &mut [u32], d: PhysicalPage, lef
 {
     let t = judge_alone(b, m, seen, d);
     if !t.passed {
+        return false;
+    }
+    if !cells_test(b, m, d) {
         return false;
     }
     if t.due == 0 {

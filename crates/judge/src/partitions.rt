@@ -1,5 +1,4 @@
-// What a partition is asked by itself: of its own pages, and of its tables once they are swept.
-use crate::cells::cells_test;
+// What a partition is asked by itself, but for its cells: of its own pages, and of the counts of its tables once they are swept.
 use crate::marks::mark_kernel;
 use crate::tally::lent_count;
 use crate::tally::tally;
@@ -12,14 +11,13 @@ ghost use mathlib.Core.Path.{_≡_};
 ghost use mathlib.Core.Bool.{true, cond, _&&_, _||_};
 ghost use mathlib.Core.Option.{none};
 ghost use lib.Dec.{eqb};
-ghost use Rattle.walk.specs.Finite.{all};
 ghost use Rattle.walk.specs.Marks.{answer, marks};
 ghost use Rattle.memory.specs.Words.{word};
 ghost use Rattle.memory.specs.Partition;
-ghost use Rattle.memory.specs.Counts.{tabled};
 ghost use Rattle.soundness.specs.Test.{own};
-ghost use Rattle.judging.specs.Quick.{cell, dueCount, lentCount, partitionTest};
+ghost use Rattle.judging.specs.Quick.{dueCount, lentCount};
 ghost use Rattle.judge.specs.Bits.{marksIn};
+ghost use Rattle.judge.specs.Alone.{aloneTest};
 ghost use Rattle.pages.specs.Width.{Width};
 
 // "conversely each lent page is mapped in that child once": the parent of d lends it n pages.
@@ -39,8 +37,7 @@ pub fn lent_test(b: u32, m: &[u32], d: PhysicalPage, n: u32) -> bool
 }
 
 // Also: "Virtual page 0 is never mapped", and "no other page that isn't lent is inaccessible" than the children's kernel pages. d maps mapped pages, shut of
-// them are neither lent nor accessible, and its children have due kernel pages. The counts come before the cells, so that a partition with more children than
-// its tables have room for is not looked at further.
+// them are neither lent nor accessible, and its children have due kernel pages.
 pub fn tables_test(b: u32, m: &[u32], d: PhysicalPage, mapped: u32, shut: u32, due: u64) -> bool
     requires { ⌜ Width b ⌝ }
     ensures { λ r.
@@ -49,8 +46,7 @@ pub fn tables_test(b: u32, m: &[u32], d: PhysicalPage, mapped: u32, shut: u32, d
         ≡ (eqb (Partition.mapping b (now (m .entry)) (d .0) 0) 0
         && eqb shut due
         && (eqb (d .0) 1
-        || eqb (lentCount b (now (m .entry)) (Partition.parent b (now (m .entry)) (d .0)) (word b (now (m .entry)) (d .0) 0)) mapped)
-        && all (cell b (now (m .entry)) (d .0)) (tabled b (now (m .entry)) (d .0)))
+        || eqb (lentCount b (now (m .entry)) (Partition.parent b (now (m .entry)) (d .0)) (word b (now (m .entry)) (d .0) 0)) mapped))
         ⌝ }
 {
     if mapping(b, m, d, 0) != 0 {
@@ -59,10 +55,7 @@ pub fn tables_test(b: u32, m: &[u32], d: PhysicalPage, mapped: u32, shut: u32, d
     if (shut as u64) != due {
         return false;
     }
-    if !lent_test(b, m, d, mapped) {
-        return false;
-    }
-    cells_test(b, m, d)
+    lent_test(b, m, d, mapped)
 }
 
 // Whether a partition passed its test and each of its pages could be marked; and where they did, the kernel pages of its children.
@@ -71,12 +64,12 @@ pub struct Alone {
     pub due: u64,
 }
 
-// A partition without its children. Its pages are marked before all is asked of it: where the answer is no, the marks are not looked at.
+// A partition without its cells and its children. Its pages are marked before all is asked of it: where the answer is no, the marks are not looked at.
 pub fn judge_alone(b: u32, m: &[u32], seen: &mut [u32], d: PhysicalPage) -> Alone
     requires { ⌜ Width b ⌝ }
     ensures { λ r.
         ⌜
-        (cond (partitionTest b (now (m .entry)) (d .0)) (marks (marksIn (now (seen .entry))) (own b (now (m .entry)) (d .0))) none
+        (cond (aloneTest b (now (m .entry)) (d .0)) (marks (marksIn (now (seen .entry))) (own b (now (m .entry)) (d .0))) none
         ≡ answer (r .passed) (marksIn (now (seen .exit))))
         × (r .passed ≡ true → r .due ≡ dueCount b (now (m .entry)) (d .0))
         ⌝ }

@@ -1,4 +1,5 @@
 // "The tree is at most 8 below the root; current is in it." and "Pages 1 to N−1 are each in exactly one hand or one kernel use."
+use crate::cells::cells_test;
 use crate::children::child_at;
 use crate::children::child_of;
 use crate::cycle::judge_children;
@@ -44,8 +45,8 @@ pub fn all_marked(seen: &[u32]) -> bool
     true
 }
 
-// The root, with eight levels below it, as any partition is judged. judge_alone has two callers so that it stays a function when it is compiled: its part of
-// the stack is then taken once, and not at each level of the tree.
+// The root, with eight levels below it, as any partition is judged. judge_alone and cells_test have two callers so that each stays a function when it is
+// compiled: its part of the stack is then taken once, and not at each level of the tree, and its loops have the registers to themselves.
 pub fn judge_root(b: u32, m: &[u32], seen: &mut [u32]) -> bool
     requires { ⌜ Width b ⌝ }
     ensures { λ r.
@@ -56,6 +57,9 @@ pub fn judge_root(b: u32, m: &[u32], seen: &mut [u32]) -> bool
 {
     let t = judge_alone(b, m, seen, PhysicalPage(1));
     if !t.passed {
+        return false;
+    }
+    if !cells_test(b, m, PhysicalPage(1)) {
         return false;
     }
     if t.due == 0 {

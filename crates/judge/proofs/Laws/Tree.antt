@@ -1,5 +1,5 @@
 -- The walk over the tree, and whether current is in it, in the code's terms. Assumes nothing.
-use mathlib.Core.Path.{_≡_, refl, sym, ap, _∙_, subst}
+use mathlib.Core.Path.{_≡_, refl, sym, ap, _∙_}
 use mathlib.Core.Bool.{Bool, true, false, cond, not, _&&_}
 use mathlib.Core.List.{List, [], _∷_}
 use mathlib.Core.Logic.{_≢_}
@@ -9,20 +9,24 @@ use native.Mathlib.Omega.{arith}
 use lib.Dec.{eqb}
 use borrow.Author.Tests.{eq-eqb, ne-eqb}
 use Rattle.walk.specs.Lists.{sumOf}
+use Rattle.walk.specs.Finite.{all}
 use Rattle.walk.specs.Marks.{Seen, each, each-done, marks, answer}
 use Rattle.walk.specs.Walk as W
 use Rattle.memory.specs.Words.{word}
 use Rattle.memory.specs.Partition.{parent, threes, tableFor}
-use Rattle.memory.specs.Counts.{childAt, childOf, children}
-use Rattle.soundness.specs.Test.{virtual, placed, under}
-use Rattle.judging.specs.Quick.{dueCount}
+use Rattle.memory.specs.Counts.{tabled, childAt, childOf, children}
+use Rattle.soundness.specs.Test.{virtual, own, placed, under}
+use Rattle.judging.specs.Quick.{cell, dueCount, partitionTest}
+use Rattle.judge.specs.Alone.{aloneTest}
+use Rattle.judge.proofs.Laws.Order.{partition-as}
+use Rattle.forms.proofs.Laws.Tests.{yes, no, and-false}
 
 none-summed : (f : ℕ → ℕ) (l : List ℕ) → sumOf (λ c. 5 + f c) l ≡ 0 → l ≡ []
 unfolding sumOf
 none-summed f [] e = refl
 none-summed f (c ∷ l) e = absurd (omega arith)
 
--- ---- a partition without its children: x is what its test says, o what marking its pages comes to
+-- ---- a partition without its cells and its children: x is what its test says, o what marking its pages comes to
 
 pub alone-bad : {x : Bool} (o : Option Seen) → x ≡ false → cond x o none ≡ none
 alone-bad o e = ap (λ (y : Bool). cond y o none) e
@@ -39,24 +43,33 @@ alone-marked {x} {y} {o} t e q = ap (λ (z : Bool). cond z o none) (sym e) ∙ g
     go true = q
     go false = refl
 
--- then with them
-module _ (kids own : ℕ → List ℕ) (ok : ℕ → Bool) (k : ℕ) (s : Seen) (d : ℕ) where
-  pub alone-no : cond (ok d) (marks s (own d)) none ≡ none → W.judge kids own ok k s d ≡ none
-  alone-no e = go (ok d) refl
+-- then with them: r is the code's answer to the test of its cells
+module _ (b : ℕ) (m : List ℕ) (k : ℕ) (s : Seen) (d : ℕ) where
+  pub alone-no : cond (aloneTest b m d) (marks s (own b m d)) none ≡ none → W.judge (children b m) (own b m) (partitionTest b m) k s d ≡ none
+  alone-no e = go (aloneTest b m d) (all (cell b m d) (tabled b m d)) (partition-as b m d) e
     where
-      go : (x : Bool) → ok d ≡ x → W.judge kids own ok k s d ≡ none
-      go true q = W.judge-stop kids own ok k s d q (subst (λ (x : Bool). cond x (marks s (own d)) none ≡ none) q e)
-      go false q = W.judge-bad kids own ok k s d q
+      go : (x y : Bool) → partitionTest b m d ≡ x && y → cond x (marks s (own b m d)) none ≡ none
+          → W.judge (children b m) (own b m) (partitionTest b m) k s d ≡ none
+      go true true q h = W.judge-stop (children b m) (own b m) (partitionTest b m) k s d q h
+      go true false q h = W.judge-bad (children b m) (own b m) (partitionTest b m) k s d q
+      go false y q h = W.judge-bad (children b m) (own b m) (partitionTest b m) k s d q
 
-  pub alone-yes : (t : Seen) → cond (ok d) (marks s (own d)) none ≡ some t → W.judge kids own ok k s d ≡ W.judges kids own ok k t (kids d)
-  alone-yes t e = go (ok d) refl
-    where
-      go : (x : Bool) → ok d ≡ x → W.judge kids own ok k s d ≡ W.judges kids own ok k t (kids d)
-      go true q = W.judge-go kids own ok k s d t q (subst (λ (x : Bool). cond x (marks s (own d)) none ≡ some t) q e)
-      go false q =
-          let n : none ≡ some t = subst (λ (x : Bool). cond x (marks s (own d)) none ≡ some t) q e in
-          let z : _≡_ {A = ℕ} 0 1 = cc in
-          absurd (omega arith)
+  module _ {r : Bool} (e : r ≡ all (cell b m d) (tabled b m d)) where
+    pub cells-no : not r ≡ true → W.judge (children b m) (own b m) (partitionTest b m) k s d ≡ none
+    cells-no n =
+        W.judge-bad (children b m) (own b m) (partitionTest b m) k s d
+        (partition-as b m d ∙ ap (λ (y : Bool). aloneTest b m d && y) (no e n) ∙ and-false (aloneTest b m d))
+
+    pub cells-yes : not r ≡ false → (t : Seen) → cond (aloneTest b m d) (marks s (own b m d)) none ≡ some t
+        → W.judge (children b m) (own b m) (partitionTest b m) k s d ≡ W.judges (children b m) (own b m) (partitionTest b m) k t (children b m d)
+    cells-yes n t h = go (aloneTest b m d) (partition-as b m d ∙ ap (λ (y : Bool). aloneTest b m d && y) (yes e n)) h
+      where
+        go : (x : Bool) → partitionTest b m d ≡ x && true → cond x (marks s (own b m d)) none ≡ some t
+            → W.judge (children b m) (own b m) (partitionTest b m) k s d ≡ W.judges (children b m) (own b m) (partitionTest b m) k t (children b m d)
+        go true q f = W.judge-go (children b m) (own b m) (partitionTest b m) k s d t q f
+        go false q f =
+            let z : _≡_ {A = ℕ} 0 1 = cc in
+            absurd (omega arith)
 
 module _ (b : ℕ) (m : List ℕ) where
   -- where the children of d have no kernel pages there are none, and nothing is to be done for each

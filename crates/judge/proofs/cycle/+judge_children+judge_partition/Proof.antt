@@ -21,7 +21,7 @@ use Rattle.judging.specs.Quick.{partitionTest}
 use Rattle.judge.specs.Run.{run, marking}
 use Rattle.judge.specs.Rows.{used, childWords}
 use Rattle.judge.specs.Bits.{marksIn}
-use Rattle.judge.proofs.Laws.Tree.{alone-no, alone-yes, no-child}
+use Rattle.judge.proofs.Laws.Tree.{alone-no, cells-no, cells-yes, no-child}
 use Rattle.judge.proofs.Laws.Search.{next-low, next-high, next-here}
 use Rattle.judge.proofs.Laws.Rows.{rowStep, rows-first, rows-next, rows-end}
 use Rattle.judge.proofs.Laws.Sweeps.{childStep, children-run, children-row}
@@ -35,6 +35,7 @@ use Rattle.judge.proofs.cycle.+judge_children+judge_partition.Lts-judge
 use Rattle.judge.proofs.cycle.judge_partition.Reads as judge-partition
 use Rattle.judge.proofs.cycle.judge_partition.Kinds as judge-partition-kinds
 use Rattle.judge.proofs.cycle.+judge_children+judge_partition.Lts-judge_partition as judge-partition-lts
+use Rattle.judge.proofs.cells.cells_test.Reads as cells-test-reads
 use Rattle.judge.proofs.children.next_child.Reads as next-child-reads
 use Rattle.judge.proofs.partitions.judge_alone.Reads as judge-alone-reads
 use Rattle.judge.proofs.rows.next_word.Reads as next-word-reads
@@ -116,6 +117,8 @@ abbrev judge-partition-claims : ℕ → judge-partition-lts.Claims
 judge-partition-claims t = (
   judge-alone-reads.Asked,
   judge-alone-reads.Learnt,
+  cells-test-reads.Asked,
+  cells-test-reads.Learnt,
   judge-children-below t,
   judge-children.Post,
 )
@@ -625,33 +628,53 @@ judge-partition-same-length t c = search needs
 judge-partition-returns : (t : ℕ) → judge-partition-lts.Need-returns (judge-partition-claims t) (judge-partition-at t) judge-partition.Post
 judge-partition-returns t c =
     let judge-alone = c .before .before .before .before .judge-alone in
-    alone-no _ _ _ _ _ _ (failed _ (judge-alone .result .passed) (marksIn (judge-alone .last .1 .1 .0)) (judge-alone .ensures .0) (not-true _ (c .if1 .taken)))
+    let s = c .before .before .before .before .before .before .before .before .args in
+    let unmarked = failed _ (judge-alone .result .passed) (marksIn (judge-alone .last .1 .1 .0)) (judge-alone .ensures .0) (not-true _ (c .if1 .taken)) in
+    alone-no (s .b) (s .m .now) _ _ (s .d .0) unmarked
+
+judge-partition-cells-test-requires : (t : ℕ) → judge-partition-lts.Need-cells-test-requires (judge-partition-claims t)
+    (judge-partition-at t) judge-partition.Post
+judge-partition-cells-test-requires t c κs = search needs
 
 judge-partition-same-length-2 : (t : ℕ) → judge-partition-lts.Need-same-length-2 (judge-partition-claims t) (judge-partition-at t) judge-partition.Post
 judge-partition-same-length-2 t c = search needs
 
 judge-partition-returns-2 : (t : ℕ) → judge-partition-lts.Need-returns-2 (judge-partition-claims t) (judge-partition-at t) judge-partition.Post
 judge-partition-returns-2 t c =
-    let judge-alone = c .before .before .before .before .before .before .judge-alone in
     let s = c .before .before .before .before .before .before .before .before .before .before .args in
-    let first = c .before .before .if1 in
-    let marked = passed _ (judge-alone .result .passed) (marksIn (judge-alone .last .1 .1 .0)) (judge-alone .ensures .0) (not-false _ (first .left)) in
-    alone-yes _ _ _ _ _ _ (marksIn (judge-alone .last .1 .1 .0)) marked
-    ∙ no-child (s .b) (s .m .now) _ (marksIn (judge-alone .last .1 .1 .0)) (s .d .0) (judge-alone .ensures .1 (not-false _ (first .left))) (c .if2 .taken)
-
-judge-partition-judge-children-requires : (t : ℕ) → judge-partition-lts.Need-judge-children-requires (judge-partition-claims t)
-    (judge-partition-at t) judge-partition.Post
-judge-partition-judge-children-requires t c κs = search needs
+    cells-no (s .b) (s .m .now) _ _ (s .d .0) (c .before .cells-test .ensures) (c .if2 .taken)
 
 judge-partition-same-length-3 : (t : ℕ) → judge-partition-lts.Need-same-length-3 (judge-partition-claims t) (judge-partition-at t) judge-partition.Post
 judge-partition-same-length-3 t c = search needs
 
 judge-partition-returns-3 : (t : ℕ) → judge-partition-lts.Need-returns-3 (judge-partition-claims t) (judge-partition-at t) judge-partition.Post
 judge-partition-returns-3 t c =
-    let judge-alone = c .before .before .before .before .before .before .before .before .before .before .judge-alone in
-    let first = c .before .before .before .before .before .before .if1 in
+    let judge-alone = c .before .before .before .before .before .before .before .before .judge-alone in
+    let cells-test = c .before .before .before .cells-test in
+    let second = c .before .before .if2 in
+    let first = c .before .before .before .before .if1 in
+    let s = c .before .before .before .before .before .before .before .before .before .before .before .before .args in
     let marked = passed _ (judge-alone .result .passed) (marksIn (judge-alone .last .1 .1 .0)) (judge-alone .ensures .0) (not-false _ (first .left)) in
-    alone-yes _ _ _ _ _ _ (marksIn (judge-alone .last .1 .1 .0)) marked ∙ c .before .before .judge-children .ensures
+    cells-yes (s .b) (s .m .now) _ _ (s .d .0) (cells-test .ensures) (second .left) (marksIn (judge-alone .last .1 .1 .0)) marked
+    ∙ no-child (s .b) (s .m .now) _ (marksIn (judge-alone .last .1 .1 .0)) (s .d .0) (judge-alone .ensures .1 (not-false _ (first .left))) (c .if3 .taken)
+
+judge-partition-judge-children-requires : (t : ℕ) → judge-partition-lts.Need-judge-children-requires (judge-partition-claims t)
+    (judge-partition-at t) judge-partition.Post
+judge-partition-judge-children-requires t c κs = search needs
+
+judge-partition-same-length-4 : (t : ℕ) → judge-partition-lts.Need-same-length-4 (judge-partition-claims t) (judge-partition-at t) judge-partition.Post
+judge-partition-same-length-4 t c = search needs
+
+judge-partition-returns-4 : (t : ℕ) → judge-partition-lts.Need-returns-4 (judge-partition-claims t) (judge-partition-at t) judge-partition.Post
+judge-partition-returns-4 t c =
+    let judge-alone = c .before .before .before .before .before .before .before .before .before .before .before .before .judge-alone in
+    let cells-test = c .before .before .before .before .before .before .before .cells-test in
+    let second = c .before .before .before .before .before .before .if2 in
+    let first = c .before .before .before .before .before .before .before .before .if1 in
+    let s = c .before .before .before .before .before .before .before .before .before .before .before .before .before .before .before .before .args in
+    let marked = passed _ (judge-alone .result .passed) (marksIn (judge-alone .last .1 .1 .0)) (judge-alone .ensures .0) (not-false _ (first .left)) in
+    cells-yes (s .b) (s .m .now) _ _ (s .d .0) (cells-test .ensures) (second .left) (marksIn (judge-alone .last .1 .1 .0)) marked
+    ∙ c .before .before .judge-children .ensures
 
 pub +judge-children+judge-partition-spec : {M : Type 1} → statement M
 +judge-children+judge-partition-spec =
@@ -701,8 +724,11 @@ pub +judge-children+judge-partition-spec : {M : Type 1} → statement M
     (judge-partition-judge-alone-requires t)
     (judge-partition-same-length t)
     (judge-partition-returns t)
+    (judge-partition-cells-test-requires t)
     (judge-partition-same-length-2 t)
     (judge-partition-returns-2 t)
-    (judge-partition-judge-children-requires t)
     (judge-partition-same-length-3 t)
     (judge-partition-returns-3 t)
+    (judge-partition-judge-children-requires t)
+    (judge-partition-same-length-4 t)
+    (judge-partition-returns-4 t)

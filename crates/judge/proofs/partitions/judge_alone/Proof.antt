@@ -4,8 +4,8 @@ use mathlib.Core.Bool.{false≢true}
 use borrow.Author.Needs.{needs}
 use borrow.Author.Tests.{not-true, not-false}
 use Rattle.walk.specs.Marks.{passed, failed}
-use Rattle.judging.specs.Quick.{partitionTest}
 use Rattle.judge.specs.Bits.{marksIn}
+use Rattle.judge.specs.Alone.{aloneTest}
 use Rattle.judge.proofs.Laws.Tree.{alone-bad, alone-unmarked, alone-marked}
 use Rattle.judge.proofs.Laws.Marks.{own-no, own-yes}
 use Rattle.judge.proofs.Laws.Order.{unformed, few, tested}
@@ -34,7 +34,7 @@ returns-2 c =
     let mark-kernel = c .before .before .before .mark-kernel in
     let s = c .before .before .before .before .before .before .before .before .before .args in
     let kernel = failed _ (mark-kernel .result) (marksIn (mark-kernel .last .1 .1 .0)) (mark-kernel .ensures) (not-true _ (c .if2 .taken)) in (
-      alone-unmarked (partitionTest (s .b) (s .m .now) (s .d .0)) (own-no (s .b) (s .m .now) (s .d .0) (marksIn (s .seen .now)) kernel),
+      alone-unmarked (aloneTest (s .b) (s .m .now) (s .d .0)) (own-no (s .b) (s .m .now) (s .d .0) (marksIn (s .seen .now)) kernel),
       λ e. absurd (false≢true e),
     )
 
@@ -53,7 +53,7 @@ returns-3 c =
     let kernel = passed _ (mark-kernel .result) (marksIn (mark-kernel .last .1 .1 .0)) (mark-kernel .ensures) (not-false _ (second .left)) in
     let hands = failed _ (tally .result .marked) (marksIn (tally .last .1 .1 .0)) (tally .ensures .0) (not-true _ (c .if3 .taken)) in
     let own = own-yes (s .b) (s .m .now) (s .d .0) (marksIn (s .seen .now)) (marksIn (mark-kernel .last .1 .1 .0)) kernel ∙ hands in
-    (alone-unmarked (partitionTest (s .b) (s .m .now) (s .d .0)) own, λ e. absurd (false≢true e))
+    (alone-unmarked (aloneTest (s .b) (s .m .now) (s .d .0)) own, λ e. absurd (false≢true e))
 
 tables-test-requires : tie.Need-tables-test-requires
 tables-test-requires c κs = search needs

@@ -1,5 +1,5 @@
 -- `judge::partitions::tables_test` meets its contract. Assumes nothing.
-use Rattle.forms.proofs.Laws.Tests.{yes, no, equal, unequal}
+use Rattle.forms.proofs.Laws.Tests.{equal, unequal}
 use mathlib.Core.Path.{refl}
 use borrow.Author.Needs.{needs}
 use Rattle.judge.proofs.partitions.tables_test.Statement.{statement}
@@ -18,25 +18,10 @@ lent-test-requires : tie.Need-lent-test-requires
 lent-test-requires c κs = search needs
 
 returns-3 : tie.Need-returns-3
-returns-3 c = rw (equal (c .before .before .before .before .mapping .ensures) refl (c .before .before .before .if1 .left), equal refl refl (c .before .before .if2 .left), no (c .before .lent-test .ensures) (c .if3 .taken))
-
-cells-test-requires : tie.Need-cells-test-requires
-cells-test-requires c κs = search needs
-
-returns-4 : tie.Need-returns-4
-returns-4 c =
-    let mapping = c .before .before .before .before .before .mapping in
-    rw (equal (mapping .ensures) refl (c .before .before .before .before .if1 .left), equal refl refl (c .before .before .before .if2 .left), yes (c .before .before .lent-test .ensures) (c .before .if3 .left))
-    (c .cells-test .ensures)
+returns-3 c =
+    rw (equal (c .before .before .before .mapping .ensures) refl (c .before .before .if1 .left), equal refl refl (c .before .if2 .left))
+    (c .lent-test .ensures)
 
 pub tables-test-spec : {M : Type 1} → statement M
 tables-test-spec =
-    tie.close
-    (tie.spec
-    mapping-requires
-    returns
-    returns-2
-    lent-test-requires
-    returns-3
-    cells-test-requires
-    returns-4)
+    tie.close (tie.spec mapping-requires returns returns-2 lent-test-requires returns-3)
