@@ -21,32 +21,20 @@ pub fn table_of(b: u32, m: &[u32], w: u32) -> &[u32]
     words_of(b, m, page_of(b, w))
 }
 
-// The first word from i on that is not 0, or the end. Four words are looked at in a turn, since most are 0.
+// The first word from i on that is not 0, or the end. Blocks without a word are passed over.
 pub fn next_word(s: &[u32], i: usize) -> usize
     requires { ⌜ i ≤ length (now s) ⌝ }
     ensures { λ r. ⌜ r ≡ seek (used (now (s .entry))) (length (now (s .entry)) - i) i ⌝ }
 {
     let mut j = i;
-    while 4 <= s.len() - j {
-        if s[j] != 0 {
-            return j;
-        }
-        if s[j + 1] != 0 {
-            return j + 1;
-        }
-        if s[j + 2] != 0 {
-            return j + 2;
-        }
-        if s[j + 3] != 0 {
-            return j + 3;
-        }
-        j += 4;
-    }
     while j < s.len() {
-        if s[j] != 0 {
+        if block_of(s, s.len(), j, 0, 8) {
+            j += 8;
+        } else if s[j] != 0 {
             return j;
+        } else {
+            j += 1;
         }
-        j += 1;
     }
     j
 }

@@ -9,10 +9,10 @@ use native.Mathlib.Decide.{ℕ-discrete}
 use lib.Dec.{leb, eqb}
 use lib.ListN.{length, getD, take, drop, length-take, length-drop}
 use lib.Seq.{getD-take, getD-drop}
-use borrow.Author.Tests.{eqb-true, ne-eqb, leb-true, not-false}
+use borrow.Author.Tests.{eqb-true, eq-eqb, ne-eqb, leb-true, not-false}
 use Rattle.walk.specs.Lists.{hit, hit-eq, hit-other, count, count-at}
 use Rattle.judge.specs.Search.{seek}
-use Rattle.judge.specs.Rows.{childWords}
+use Rattle.judge.specs.Rows.{used, childWords}
 use Rattle.judge.specs.Blocks.{blockAt, inBlock, emptyBlock, childlessBlock}
 use Rattle.judge.proofs.Laws.Search.{seek-past}
 
@@ -60,6 +60,12 @@ module _ (n i : ℕ) where
         let q = both (blockAt n i) (eqb (inBlock 0 s i) 8) e in
         let r = block-length (block-end (q .0)) in
         sym (block-word k a l) ∙ all-same 0 (take 8 (drop i s)) (omega (arith, r, eqb-true (inBlock 0 s i) 8 (q .1))) (k - i) (omega (arith, r))
+
+    -- a search for a word goes past such a block
+    pub empty-past : {t : Bool} → t ≡ emptyBlock s n i → t ≡ true → seek (used s) (n - i) i ≡ seek (used s) (n - (i + 8)) (i + 8)
+    empty-past q e =
+        let h : emptyBlock s n i ≡ true = sym q ∙ e in
+        seek-past (used s) n i (i + 8) (omega arith) (empty-end h) (λ x a l. ap not (eq-eqb (getD s x 0) 0 (empty-word h x a l)))
 
     childless-end : childlessBlock s n i ≡ true → i + 8 ≤ n
     childless-end e = block-end (both (blockAt n i) (eqb (inBlock 1 s i) 0) e .0)

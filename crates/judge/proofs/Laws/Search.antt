@@ -71,19 +71,3 @@ module _ (p : ℕ → Bool) where
   seek-past k i r a l h =
       let e : i + (r - i) ≡ r = omega arith in
       seek-run (r - i) k i (omega arith) (λ x c d. h x c (omega arith)) ∙ ap (λ (j : ℕ). seek p (k - j) j) e
-
-  pub seek-two : (k i : ℕ) → i + 1 < k → p i ≡ false → p (i + 1) ≡ false → seek p (k - i) i ≡ seek p (k - (i + 2)) (i + 2)
-  seek-two k i h e f =
-      let q : i + 1 + 1 ≡ i + 2 = omega arith in
-      seek-on k i (omega arith) e ∙ seek-on k (i + 1) h f ∙ ap (λ (j : ℕ). seek p (k - j) j) q
-
-  pub seek-three : (k i : ℕ) → i + 2 < k → p i ≡ false → p (i + 1) ≡ false → p (i + 2) ≡ false → seek p (k - i) i ≡ seek p (k - (i + 3)) (i + 3)
-  seek-three k i h e f g =
-      let q : i + 2 + 1 ≡ i + 3 = omega arith in
-      seek-two k i (omega arith) e f ∙ seek-on k (i + 2) h g ∙ ap (λ (j : ℕ). seek p (k - j) j) q
-
-  pub seek-four : (k i : ℕ) → i + 3 < k → p i ≡ false → p (i + 1) ≡ false → p (i + 2) ≡ false → p (i + 3) ≡ false
-      → seek p (k - i) i ≡ seek p (k - (i + 4)) (i + 4)
-  seek-four k i h e f g u =
-      let q : i + 3 + 1 ≡ i + 4 = omega arith in
-      seek-three k i (omega arith) e f g ∙ seek-on k (i + 3) h u ∙ ap (λ (j : ℕ). seek p (k - j) j) q
