@@ -138,8 +138,8 @@ impl Partition {
 
 /// The words of three pages at each index; a page that is absent or outside the memory counts as 0.
 fn columns(mem: &[u32], pages: [Option<PPage>; 3]) -> impl Iterator<Item = [u32; 3]> + '_ {
-    let pages = pages.map(|absent| absent.map_or(&[][..], |present| words_of(mem, present)));
-    (0..Edition::of(mem).page_words()).map(move |i| pages.map(|page| page.get(i).copied().unwrap_or(0)))
+    let words = pages.map(|page| page.map_or(&[][..], |page| words_of(mem, page)));
+    (0..Edition::of(mem).page_words()).map(move |i| words.map(|words| words.get(i).copied().unwrap_or(0)))
 }
 
 fn pair(mem: &[u32], page: PPage, index: usize) -> (VPage, PPage) {
