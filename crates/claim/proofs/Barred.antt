@@ -8,7 +8,8 @@ use Rattle.soundness.specs.Test.{soundTest}
 use Rattle.soundness.proofs.Whole.{test-sound}
 use Rattle.memory.specs.Edition.{edition, width}
 use Rattle.rules.specs.Row.{Answer, no}
-use Rattle.rules.specs.Call.{Call, formatAll, createPartition, deletePartition, addVAddr, removeVAddr, pageCount, prepare, collect, mappedInChild, enter, leave, load, store, choice}
+use Rattle.rules.specs.Call.{Call, formatAll, createPartition, deletePartition, addVAddr, removeVAddr, pageCount, prepare, collect, mappedInChild}
+use Rattle.rules.specs.Call.{enter, leave, load, store, choice}
 use Rattle.rules.specs.Conditions.{damaged}
 use Rattle.rules.specs.Refusals.{refusals}
 use Rattle.rules.specs.Editions.{answer, after, run, answers}

@@ -39,5 +39,6 @@ module _ (e : ℕ) (m : List ℕ) (f : Fits e m) where
           words = r;
           answered = answers-formatted e m f cs;
           edition = subst (λ (x : List ℕ). edition x ≡ d) (sym r) (edition-is d (run start cs) held);
-          kept = rw r (kept (widthOf d) (wide-of d (held .known)) (run start cs) (pagesIn (widthOf d) m) s (pages-kept (widthOf d) m (run start cs) (length-run start cs ∙ same-length) s));
+          kept = rw r (kept (widthOf d) (wide-of d (held .known)) (run start cs) (pagesIn (widthOf d) m) s
+              (pages-kept (widthOf d) m (run start cs) (length-run start cs ∙ same-length) s));
         }

@@ -38,4 +38,5 @@ module _ (m : List ℕ) (e : ℕ) where
   unfolding refusals result effect answer after
   formatted h p q r =
       let u = unfit-size h p q in
-      (sym (answer-ok (width m) m (formatAll e) (on u none)), r ∙ ap (λ (x : ℕ). format x (pagesIn x m)) p ∙ sym (after-ok (width m) m (formatAll e) (on u none)))
+      let row = on u none in
+      (sym (answer-ok (width m) m (formatAll e) row), r ∙ ap (λ (x : ℕ). format x (pagesIn x m)) p ∙ sym (after-ok (width m) m (formatAll e) row))

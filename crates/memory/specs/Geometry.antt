@@ -50,7 +50,7 @@ module _ (b : ℕ) where
   abbrev pub mostPages : ℕ
   mostPages = 4 * 2 ^ b
 
-  -- "T is the smallest number with 67T ≥ N−5": the quotient, rounded up (threesFor-enough and threesFor-least of proofs/Geometry.antt)
+  -- "T is the smallest number with 67T ≥ N−5", in the new edition "with 1027T ≥ N−5": the quotient, rounded up (threesFor-enough and threesFor-least of proofs/Geometry.antt)
   abbrev pub threesFor : ℕ → ℕ
   threesFor n = (n - 5 + (2 ^ b + 2)) / (2 ^ b + 3)
 

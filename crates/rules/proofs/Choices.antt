@@ -3,7 +3,8 @@ use mathlib.Core.Path.{_≡_, ap}
 use mathlib.Core.Option.{Option, none, some}
 use Prim.Native.Nat.{ℕ}
 use native.Mathlib.Omega.{arith}
-use Rattle.rules.specs.Call.{Call, formatAll, createPartition, deletePartition, addVAddr, removeVAddr, pageCount, prepare, collect, mappedInChild, enter, leave, load, store, choice}
+use Rattle.rules.specs.Call.{Call, formatAll, createPartition, deletePartition, addVAddr, removeVAddr, pageCount, prepare, collect, mappedInChild}
+use Rattle.rules.specs.Call.{enter, leave, load, store, choice}
 
 some-eq : {e f : ℕ} → _≡_ {A = Option ℕ} (some e) (some f) → e ≡ f
 some-eq h = cc

@@ -9,7 +9,8 @@ use Rattle.memory.specs.Partition.{current, inHand}
 use Rattle.rules.specs.Refusal.{DAMAGED, SIZE, ADDRESS, TWICE, CHILD, RIGHTS, HAND, TABLE, TAKEN, LIST, FULL-TABLE, DEPTH, ROOT, UNMAPPED, KERNEL}
 use Rattle.rules.specs.Row.{Check, _when_, first}
 use Rattle.rules.specs.Call.{Call, formatAll, createPartition, deletePartition, addVAddr, removeVAddr, pageCount, prepare, collect, mappedInChild, enter, leave, load, store}
-use Rattle.rules.specs.Conditions.{twice, damaged, badAddress, badPage, noChild, child, lacks, notInHand, noThree, unmapped, mapped, listFull, anyMapping, tooDeep, atRoot, inaccessible, chain, unfit}
+use Rattle.rules.specs.Conditions.{twice, damaged, badAddress, badPage, noChild, child, lacks, notInHand, noThree, unmapped, mapped, listFull}
+use Rattle.rules.specs.Conditions.{anyMapping, tooDeep, atRoot, inaccessible, chain, unfit}
 
 module _ (b : ℕ) where
   unfoldable pub refusals : List ℕ → Call → List Check

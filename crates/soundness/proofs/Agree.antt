@@ -32,8 +32,11 @@ module _ (b : ℕ) (m : List ℕ) where
   pub header? : Tells (T.headerTest b m) (S.Header b m)
   unfolding T.headerTest
   header? =
-      via (both (both (both (both (both (both (both (both eq? le?) le?) eq?) eq?) eq?) physical?) eq?) (all? (from (pageWords b) 0) (below (pageWords b)) (λ i. given le? eq?)))
-      (λ ((((((((s, l), h), t), e), f), c), n), r). record { size = s; least = l; most = h; threes = t; descriptor = e; first = f; current = c; edition = n; rest = r })
+      via
+      (both (both (both (both (both (both (both (both eq? le?) le?) eq?) eq?) eq?) physical?) eq?)
+      (all? (from (pageWords b) 0) (below (pageWords b)) (λ i. given le? eq?)))
+      (λ ((((((((s, l), h), t), d), f), c), e), r).
+      record { size = s; least = l; most = h; threes = t; descriptor = d; first = f; current = c; edition = e; rest = r })
       (λ h. ((((((((h .size, h .least), h .most), h .threes), h .descriptor), h .first), h .current), h .edition), h .rest))
 
   pub descriptor? : (d : ℕ) → Tells (T.descriptorTest b m d) (S.DescriptorForm b m d)

@@ -4,7 +4,8 @@ use mathlib.Core.List.{List}
 use mathlib.Core.Option.{none}
 use Prim.Native.Nat.{ℕ, _≤_}
 use native.Mathlib.Omega.{arith}
-use Rattle.rules.specs.Call.{Call, formatAll, createPartition, deletePartition, addVAddr, removeVAddr, pageCount, prepare, collect, mappedInChild, enter, leave, load, store, choice}
+use Rattle.rules.specs.Call.{Call, formatAll, createPartition, deletePartition, addVAddr, removeVAddr, pageCount, prepare, collect, mappedInChild}
+use Rattle.rules.specs.Call.{enter, leave, load, store, choice}
 use Rattle.rules.specs.Calls.{after}
 use Rattle.rules.proofs.model.Inv.{Inv}
 use Rattle.rules.proofs.steps.Unchanged.{inv-after, inv-pageCount, inv-mappedInChild, inv-load}

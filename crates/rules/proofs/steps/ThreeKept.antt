@@ -9,7 +9,8 @@ use Rattle.memory.specs.Geometry
 use Rattle.memory.specs.Partition
 use Rattle.memory.specs.Tree.{InTree}
 use Rattle.rules.specs.Row.{pass}
-use Rattle.rules.specs.Call.{Call, formatAll, createPartition, deletePartition, addVAddr, removeVAddr, pageCount, prepare, collect, mappedInChild, enter, leave, load, store, choice}
+use Rattle.rules.specs.Call.{Call, formatAll, createPartition, deletePartition, addVAddr, removeVAddr, pageCount, prepare, collect, mappedInChild}
+use Rattle.rules.specs.Call.{enter, leave, load, store, choice}
 use Rattle.rules.specs.Conditions
 use Rattle.rules.specs.Refusals.{refusals, refusal}
 use Rattle.rules.specs.Effects.{delete, effect}
@@ -164,7 +165,8 @@ module _ {b : ℕ} (wide : 6 ≤ b) where
   unfolding run
   three-run m i d x th [] s = th
   three-run m i d x th (y ∷ ys) s =
-      three-run (after b m y) (inv-step wide m i y (s .0 .noFormat)) d x (three-step wide m i d x (in-tree-live wide m i (s .0 .before .0) d (s .0 .before .1)) th y (s .0)) ys (s .1)
+      let live = in-tree-live wide m i (s .0 .before .0) d (s .0 .before .1) in
+      three-run (after b m y) (inv-step wide m i y (s .0 .noFormat)) d x (three-step wide m i d x live th y (s .0)) ys (s .1)
 
   inv-run : (m : List ℕ) → Inv b m → (d x : ℕ) (ys : List Call) → SparesAll b m d x ys → Inv b (run b m ys)
   unfolding run

@@ -35,7 +35,9 @@ returns-3 : tie.Need-returns-3
 returns-3 c =
     let s = c .before .before .before .before .before .before .before .before .before .before .args in
     let wrong-size = c .before .before .before .before .before .wrong-size in
-    formatted (s .m .now) (s .edition) (omega arith) (c .before .before .before .before .before .before .before .width-of .ensures .0) (sym (wrong-size .ensures) ∙ c .before .before .before .before .if2 .left) (c .before .before .format-effect .ensures)
+    let width-of = c .before .before .before .before .before .before .before .width-of in
+    formatted (s .m .now) (s .edition) (omega arith) (width-of .ensures .0) (sym (wrong-size .ensures) ∙ c .before .before .before .before .if2 .left)
+    (c .before .before .format-effect .ensures)
 
 pub format-spec : {M : Type 1} → statement M
 format-spec =

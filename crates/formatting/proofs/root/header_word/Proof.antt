@@ -32,7 +32,8 @@ returns c =
     let page-address = c .before .before .before .before .page-address in
     let page-address2 = c .before .before .before .page-address2 in
     let edition-of = c .before .before .edition-of in
-    c .read .ensures ∙ header-is (s .b) (s .n) (s .t) (c .before .before .before .before .before .pre .1 .0) (s .i) (page-address .result) (page-address2 .result) (edition-of .result)
+    let h = c .before .before .before .before .before .pre in
+    c .read .ensures ∙ header-is (s .b) (s .n) (s .t) (h .1 .0) (s .i) (page-address .result) (page-address2 .result) (edition-of .result)
     (page-address .ensures .0) (page-address2 .ensures .0) (edition-of .ensures .0)
 
 pub header-word-spec : {M : Type 1} → statement M

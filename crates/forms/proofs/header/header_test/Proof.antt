@@ -38,9 +38,11 @@ zero-from-requires c κs = search needs
 returns-4 : tie.Need-returns-4
 unfolding headerTest
 returns-4 c =
-    let size = yes (c .before .before .before .before .before .before .before .size-test .ensures) (c .before .before .before .before .before .before .if1 .left) in
+    let first = c .before .before .before .before .before .before .if1 in
+    let size = yes (c .before .before .before .before .before .before .before .size-test .ensures) (first .left) in
     let offsets = yes (c .before .before .before .before .before .offsets-test .ensures) (c .before .before .before .before .if2 .left) in
-    rw (size, offsets, equal (c .before .before .before .read-word .ensures) (c .before .before .edition-of .ensures .0) (c .before .if3 .left)) (c .zero-from .ensures)
+    let edition = equal (c .before .before .before .read-word .ensures) (c .before .before .edition-of .ensures .0) (c .before .if3 .left) in
+    rw (size, offsets, edition) (c .zero-from .ensures)
 
 pub header-test-spec : {M : Type 1} → statement M
 header-test-spec =

@@ -11,7 +11,9 @@ is-sound-requires : tie.Need-is-sound-requires
 is-sound-requires c κs = search needs
 
 delete-partition-requires : tie.Need-delete-partition-requires
-delete-partition-requires c κs = (c .before .before .before .width .ensures .1, rw (c .before .before .before .width .ensures .0) (c .before .is-sound .ensures))
+delete-partition-requires c κs =
+    let width = c .before .before .before .width in
+    (width .ensures .1, rw (width .ensures .0) (c .before .is-sound .ensures))
 
 same-length : tie.Need-same-length
 same-length c = search needs

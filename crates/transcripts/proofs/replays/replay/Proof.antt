@@ -21,7 +21,10 @@ put-bad-script-requires c κs = search needs
 returns : tie.Need-returns
 returns c =
     let s = c .before .before .before .before .before .before .args in
-    let p = bad 6 (s .bytes .now) (s .out .now) (checked (s .bytes .now) (c .before .before .before .before .width-of .ensures .0) (c .before .before .before .well-formed .ensures) (not-true _ (c .before .before .if1 .taken))) (c .put-bad-script .ensures) in
+    let well-formed = c .before .before .before .well-formed in
+    let width-of = c .before .before .before .before .width-of in
+    let no = checked (s .bytes .now) (width-of .ensures .0) (well-formed .ensures) (not-true _ (c .before .before .if1 .taken)) in
+    let p = bad 6 (s .bytes .now) (s .out .now) no (c .put-bad-script .ensures) in
     (p, fits (s .bytes .now) p (search needs))
 
 most-words-requires : tie.Need-most-words-requires
