@@ -17,14 +17,14 @@ module _ (b : ℕ) where
   unfoldable pub editionOf : ℕ
   editionOf = cond (eqb b (widthOf 0)) 0 1
 
-  -- "A page is 64 words (256 bytes)."
+  -- "A page is 64 words (256 bytes)."; L4: "4,096-byte pages of 1,024 words", and "Wherever 01 writes 256 or 64 for a page, the edition's size stands instead"
   abbrev pub pageWords : ℕ
   pageWords = 2 ^ b
 
   abbrev pub pageBytes : ℕ
   pageBytes = 4 * 2 ^ b
 
-  -- "A virtual address has 20 bits": the first number that is none
+  -- "A virtual address has 20 bits"; L4: "32-bit addresses", "no 32-bit address is too large". The first number that is none
   abbrev pub addressEnd : ℕ
   addressEnd = 2 ^ (3 * b + 2)
 
@@ -46,11 +46,12 @@ module _ (b : ℕ) where
   abbrev pub place : ℕ → ℕ
   place a = a % pageBytes
 
-  -- "N pages, 16 to 256"
+  -- "N pages, 16 to 256"; L4: "N from 16 to 4,096"
   abbrev pub mostPages : ℕ
   mostPages = 4 * 2 ^ b
 
-  -- "T is the smallest number with 67T ≥ N−5", in the new edition "with 1027T ≥ N−5": the quotient, rounded up (threesFor-enough and threesFor-least of proofs/Geometry.antt)
+  -- "T is the smallest number with 67T ≥ N−5", "T is the smallest with 1027T ≥ N−5": the quotient, rounded up (threesFor-enough and threesFor-least of
+  -- proofs/Geometry.antt)
   abbrev pub threesFor : ℕ → ℕ
   threesFor n = (n - 5 + (2 ^ b + 2)) / (2 ^ b + 3)
 
@@ -61,7 +62,7 @@ module _ (b : ℕ) where
 abbrev pub leastPages : ℕ
 leastPages = 16
 
--- "A partition has at most 10 threes."
+-- "A partition has at most 10 threes."; L4: "a list page still takes 10 threes"
 abbrev pub mostThrees : ℕ
 mostThrees = 10
 
