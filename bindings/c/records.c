@@ -29,7 +29,7 @@ int main(void)
 
     printf("words 0: verdict %" PRIu32 ", writer %" PRIu32 "\n", tumashqin_verdict(words, WORDS),
            tumashqin_write_record(words, WORDS, revision, sizeof revision, out, sizeof out));
-    if (tumashqin_format(words, WORDS) != TUMASHQIN_DONE)
+    if (tumashqin_format(words, WORDS, TUMASHQIN_PAGES_256) != TUMASHQIN_DONE)
         return 1;
     printf("formatted: verdict %" PRIu32 ", writer %" PRIu32 "\n", tumashqin_verdict(words, WORDS),
            tumashqin_write_record(words, WORDS, revision, sizeof revision, out, sizeof out));

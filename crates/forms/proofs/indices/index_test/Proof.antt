@@ -58,7 +58,7 @@ returns-4 c =
     let place = c .before .before .before .before .place in
     let l : place .result < threes (s .b) (s .m .now) (s .o .descriptor .0) = omega (arith, h .1 .0 .named .counted, place .ensures .high) in
     met-twice (s .b) (s .m .now) (s .o .descriptor .0) (s .met .now) (s .i) (words-at .ensures) (h .1 .1 .0)
-    (yes (three-links .ensures) (first .left)) (second .left) (place .ensures) l (c .if4 .taken)
+    (yes (three-links .ensures) (first .left)) (second .left) (place .ensures) l (λ e. omega (arith, e, c .if4 .taken))
 
 slice-write-met : tie.Need-slice-write-met
 slice-write-met c = search needs
