@@ -6,10 +6,8 @@ use crate::scenario::*;
 use crate::table::Table;
 use second::geometry::{Edition, LARGE};
 
-/// "per page within a factor 2 from 16 to 256".
+/// "per page within a factor 2 from 16 to 256"; with large pages from 16 to 4,096.
 const MOST: f64 = 2.0;
-/// A memory of more words, 4 MiB, may lie outside the processor's caches, where both versions wait for memory: its growth is held to the ordinary version's.
-const CACHED: usize = 1 << 20;
 /// Times on several memories are compared, not of both versions on one: the least time has to be found on each.
 const FAVOUR: u32 = 4;
 
@@ -30,7 +28,6 @@ fn sizes(edition: Edition) -> &'static [usize] {
 struct Size {
     name: String,
     pages: usize,
-    words: usize,
     kernel: usize,
     mappings: usize,
     judge: Row,
@@ -39,19 +36,14 @@ struct Size {
 impl Size {
     fn of(recipe: Recipe, edition: Edition, pages: usize, bench: &mut Bench) -> Size {
         let Scenario { name, whole, .. } = recipe(edition, pages);
-        let (words, kernel, mappings) = (whole.len(), kernel_pages(&whole), mappings(&whole));
-        let place = bench.memory(whole);
+        let (kernel, mappings, place) = (kernel_pages(&whole), mappings(&whole), bench.memory(whole));
         let (name, judge) = (format!("{}{name}", prefix(edition)), bench.judge(place));
         bench.favour(judge, FAVOUR);
-        Size { name, pages, words, kernel, mappings, judge }
+        Size { name, pages, kernel, mappings, judge }
     }
 
     fn per_page(&self, bench: &Bench) -> f64 {
         bench.times(self.judge).proved / self.kernel as f64
-    }
-
-    fn ordinary_per_page(&self, bench: &Bench) -> f64 {
-        bench.times(self.judge).ordinary / self.kernel as f64
     }
 }
 
@@ -75,24 +67,12 @@ impl Growth {
         ]
     }
 
-    /// For each recipe the greatest cost per kernel page over the least; of a memory outside the caches, divided by the same of the ordinary version.
+    /// For each recipe the greatest cost per kernel page over the least.
     pub fn bars(&self, bench: &Bench) -> Vec<Bar> {
         let bar = |sizes: &Vec<Size>| {
-            let least = |cost: fn(&Size, &Bench) -> f64| {
-                sizes.iter().map(|size| cost(size, bench)).fold(f64::INFINITY, f64::min)
-            };
-            let (proved, ordinary) = (least(Size::per_page), least(Size::ordinary_per_page));
-            let figure = |size: &Size| {
-                let growth = size.per_page(bench) / proved;
-                match size.words <= CACHED {
-                    true => (growth, format!("{} pages", size.pages)),
-                    false => {
-                        let place = format!("{} pages, over the ordinary version's growth", size.pages);
-                        (growth * ordinary / size.ordinary_per_page(bench), place)
-                    }
-                }
-            };
-            Bar::new(format!("per kernel page, {}", sizes[0].name), MOST, sizes.iter().map(figure))
+            let least = sizes.iter().map(|size| size.per_page(bench)).fold(f64::INFINITY, f64::min);
+            let figures = sizes.iter().map(|size| (size.per_page(bench) / least, format!("{} pages", size.pages)));
+            Bar::new(format!("per kernel page, {}", sizes[0].name), MOST, figures)
         };
         self.recipes.iter().map(bar).collect()
     }
@@ -110,7 +90,7 @@ fn table<'a>(title: &str, sizes: impl Iterator<Item = &'a Size>, bench: &Bench) 
             size.mappings.to_string(),
             whole(times.proved),
             format!("{:.1}", size.per_page(bench)),
-            format!("{:.1}", size.ordinary_per_page(bench)),
+            format!("{:.1}", times.ordinary / size.kernel as f64),
             ratio(times.ratio()),
         ]);
     }
