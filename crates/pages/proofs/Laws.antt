@@ -3,15 +3,18 @@ use mathlib.Core.Path.{_≡_, ap, _∙_}
 use mathlib.Core.Logic.{_≢_}
 use mathlib.Core.Bool.{true, false, not}
 use mathlib.Core.List.{List}
-use Prim.Native.Nat.{ℕ, _-_, _*_, _%_, _^_, _≤_, _<_}
+use Prim.Native.Nat.{ℕ, _+_, _-_, _*_, _/_, _%_, _^_, _≤_, _<_}
+use native.Mathlib.Nat.{div-add-mod'}
 use native.Mathlib.Omega.{arith}
 use borrow.Author.Tests.{eq-eqb, ne-eqb, le-leb, lt-leb, lt-ltb, le-ltb}
 use lib.Dec.{eqb}
 use lib.Bits.{bitAnd, and-mask}
-use lib.Pow.{shl-exact}
-use Rattle.memory.specs.Geometry.{pageBytes, addressEnd}
+use lib.Pow.{shl-exact, shr-shr}
+use Rattle.memory.specs.Geometry.{pageOf, pageBytes, addressEnd}
+use Rattle.memory.specs.Words.{start}
 use Rattle.memory.specs.Entry.{accessible}
 use Rattle.memory.specs.Partition.{mapping, lent, inHand}
+use Rattle.memory.proofs.Widths.{page-by-shift}
 use Rattle.rules.specs.Conditions.{badAddress}
 
 -- ---- a field of bits
@@ -21,6 +24,14 @@ one-bit n h = shl-exact 1 n 32 (omega arith) (omega arith) ∙ omega arith
 
 pub low-field : (x n : ℕ) → n < 32 → bitAnd x (1 * 2 ^ n % 4294967296 - 1) ≡ x % 2 ^ n
 low-field x n h = ap (λ (y : ℕ). bitAnd x (y - 1)) (one-bit n h) ∙ and-mask x n
+
+-- the bits below a page are cut off
+pub start-by-mask : (b w : ℕ) → w / 4 - w / 4 % 2 ^ b ≡ start b (pageOf b w)
+start-by-mask b w =
+    let n : 2 + b ≡ b + 2 = omega arith in
+    let e : w / 4 / 2 ^ b ≡ pageOf b w = shr-shr w 2 b ∙ ap (λ (x : ℕ). w / 2 ^ x) n ∙ page-by-shift b w in
+    let s : w / 4 / 2 ^ b * 2 ^ b ≡ start b (pageOf b w) = ap (λ (x : ℕ). x * 2 ^ b) e in
+    omega (arith, s, div-add-mod' (w / 4) (2 ^ b))
 
 -- ---- a bad address
 

@@ -4,6 +4,7 @@ ghost use mathlib.Core.Path.{_≡_};
 ghost use Prim.Native.Nat.{_+_, _/_, _%_, _^_, _<_, _≤_};
 ghost use Rattle.memory.specs.Geometry;
 ghost use Rattle.memory.specs.Geometry.{pageOf, directoryIndex, tableIndex};
+ghost use Rattle.memory.specs.Words.{start};
 ghost use Rattle.rules.specs.Conditions.{badAddress, badPage};
 ghost use Rattle.pages.specs.Width.{Width};
 
@@ -34,6 +35,16 @@ pub fn page_of(b: u32, w: u32) -> PhysicalPage
     ensures { λ r. ⌜ r .0 ≡ pageOf b w ⌝ }
 {
     PhysicalPage(high(w, b + 2))
+}
+
+// Where the page of a word starts in the memory. The bits below the page are cut off, so that nothing is shifted by the width: the judge asks this of every
+// mapping.
+pub fn start_of(b: u32, w: u32) -> usize
+    requires { ⌜ Width b ⌝ }
+    ensures { λ r. ⌜ (r ≡ start b (pageOf b w)) × (r < 1073741824) ⌝ }
+{
+    let i = w >> 2;
+    (i - low(i, b)) as usize
 }
 
 // The page of a virtual address.

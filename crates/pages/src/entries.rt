@@ -1,7 +1,9 @@
 // A page table word: a page's address, and flags below the page's size.
 use crate::addresses::frame;
 ghost use mathlib.Core.Path.{_≡_};
+ghost use mathlib.Core.Bool.{_&&_};
 ghost use Prim.Native.Nat.{_<_};
+ghost use lib.Dec.{eqb};
 ghost use Rattle.memory.specs.Geometry.{pageOf};
 ghost use Rattle.memory.specs.Entry;
 ghost use Rattle.memory.specs.Entry.{entry, holds};
@@ -35,4 +37,12 @@ pub fn has_rights(r: u32, w: u32) -> bool
     ensures { λ x. ⌜ x ≡ holds r w ⌝ }
 {
     r & rights(w) == r
+}
+
+// What the word w adds to the flags of u, as bits: 0 exactly where both have the same accessible bit (bit 1) and u has all rights of w (bits 2 to 4). The
+// judge asks this of every mapping, so that it is one number and not two tests.
+pub fn flags_added(w: u32, u: u32) -> u32
+    ensures { λ r. ⌜ eqb r 0 ≡ (eqb (Entry.accessible w) (Entry.accessible u) && holds (Entry.rights w) u) ⌝ }
+{
+    ((w ^ u) & 2) | (w & (w ^ u) & 28)
 }
