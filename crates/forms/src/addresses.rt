@@ -1,13 +1,17 @@
 // Words that are addresses.
 use pages::PhysicalPage;
+use pages::VirtualPage;
+use pages::address_of;
 use pages::frame;
 use pages::index;
+use pages::page_bytes;
 use pages::page_of;
+use pages::page_words;
 use pages::place;
-use pages::virtual_page;
 ghost use mathlib.Core.Path.{_≡_};
+ghost use Prim.Native.Nat.{_-_, _*_};
 ghost use lib.Dec.{ltb, eqb};
-ghost use Rattle.memory.specs.Geometry.{address, pageOf};
+ghost use Rattle.memory.specs.Geometry.{address, pageOf, pageWords};
 ghost use Rattle.memory.specs.Partition.{pages};
 ghost use Rattle.soundness.specs.Test.{virtual, physical};
 ghost use Rattle.pages.specs.Width.{Width};
@@ -20,8 +24,24 @@ pub fn in_memory(b: u32, m: &[u32], w: u32) -> bool
     page_of(b, w).0 < pages::pages(b, m)
 }
 
-// v is the address of a virtual page: "a virtual address has 20 bits". Its place is 0, and its page number has no bit above the two indices. The judge
-// asks this of every mapping: it takes a mask and two shifts, and the lookup that follows needs the page number too.
+// Where the memory ends, in bytes.
+pub fn memory_end(b: u32, m: &[u32]) -> u64
+    requires { ⌜ Width b ⌝ }
+    ensures { λ r. ⌜ r ≡ address b (pages b (now (m .entry))) ⌝ }
+{
+    (pages::pages(b, m) as u64) * (page_bytes(b) as u64)
+}
+
+// The address of the last virtual page.
+fn last_address(b: u32) -> u32
+    requires { ⌜ Width b ⌝ }
+    ensures { λ r. ⌜ r ≡ address b (pageWords b * pageWords b - 1) ⌝ }
+{
+    let n = page_words(b);
+    address_of(b, VirtualPage(n * n - 1))
+}
+
+// v is the address of a virtual page: "a virtual address has 20 bits". Its place is 0, and it is no higher than the last one.
 pub fn virtual_address(b: u32, v: u32) -> bool
     requires { ⌜ Width b ⌝ }
     ensures { λ r. ⌜ r ≡ virtual b v ⌝ }
@@ -29,7 +49,7 @@ pub fn virtual_address(b: u32, v: u32) -> bool
     if place(b, v) != 0 {
         return false;
     }
-    virtual_page(b, v).0 >> (2 * b) == 0
+    v <= last_address(b)
 }
 
 // a is the address of a physical page: "a physical address is 256k".

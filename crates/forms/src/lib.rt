@@ -13,6 +13,7 @@ pub mod tables;
 pub mod threes;
 pub mod words;
 
+pub use addresses::memory_end;
 pub use addresses::virtual_address;
 pub use children::child_forms;
 pub use header::header_test;
@@ -20,3 +21,4 @@ pub use pairs::list_pair;
 pub use partitions::forms_test;
 pub use root::root_pages;
 pub use tables::entry_test;
+pub use words::zeros;

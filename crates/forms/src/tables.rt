@@ -4,6 +4,8 @@ use crate::own::Three;
 use pages::frame;
 use pages::place;
 ghost use mathlib.Core.Path.{_≡_};
+ghost use Rattle.memory.specs.Geometry.{address};
+ghost use Rattle.memory.specs.Partition.{pages};
 ghost use Rattle.soundness.specs.Test.{tableLink};
 ghost use Rattle.judging.specs.Quick.{entryTest};
 ghost use Rattle.forms.specs.Asked.{links};
@@ -50,13 +52,14 @@ pub fn three_links(b: u32, m: &[u32], t: Three) -> bool
 }
 
 // "physical address + 1 + 2·accessible + 4·rights": of the bits below the page's size, but for accessible and rights (bits 1 to 4), just the lowest is
-// set. The mask is 2^32 − 1 − 30; the judge asks this of every mapping.
-pub fn entry_test(b: u32, m: &[u32], w: u32) -> bool
+// set. The mask is 2^32 − 1 − 30. The judge asks this of every mapping, so that the end of the memory is worked out once.
+pub fn entry_test(b: u32, m: &[u32], end: u64, w: u32) -> bool
     requires { ⌜ Width b ⌝ }
+    requires end { ⌜ end ≡ address b (pages b (now m)) ⌝ }
     ensures { λ r. ⌜ r ≡ entryTest b (now (m .entry)) w ⌝ }
 {
     if place(b, w) & 4294967265 != 1 {
         return false;
     }
-    in_memory(b, m, w)
+    (w as u64) < end
 }

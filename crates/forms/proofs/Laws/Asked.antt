@@ -19,7 +19,7 @@ use Rattle.forms.specs.Asked.{links, listedAs, noTables, indexTest, Skip
 use Rattle.forms.specs.Named.{WordsAt}
 use Rattle.forms.proofs.Laws.Tests.{and-false, and-fst, and-snd}
 use Rattle.forms.proofs.Laws.Loops.{all-at, all-yes}
-use Rattle.forms.proofs.Laws.Runs.{or-zero}
+use Rattle.pages.proofs.Bits.{or-test}
 
 -- ---- the words of an index
 
@@ -41,7 +41,7 @@ module _ (b : ℕ) (m : List ℕ) (w x y : ℕ) where
 module _ (b : ℕ) (m : List ℕ) (d i : ℕ) {w x y : ℕ} (h : WordsAt b m d i w x y) where
   pub joined-as : eqb (bitOr (bitOr w x) y) 0 ≡ noTables b m d i
   unfolding noTables
-  joined-as = or-zero (bitOr w x) y ∙ ap (λ (t : Bool). t && eqb y 0) (or-zero w x) ∙ rw (h .in-directory, h .in-shadow1, h .in-shadow2) refl
+  joined-as = or-test (bitOr w x) y ∙ ap (λ (t : Bool). t && eqb y 0) (or-test w x) ∙ rw (h .in-directory, h .in-shadow1, h .in-shadow2) refl
 
   links-as : directoryTest b m d i ≡ links b m w x y
   unfolding directoryTest links

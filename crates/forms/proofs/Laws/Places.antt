@@ -1,17 +1,18 @@
--- What the bits of a word below the page's size tell: x stands for these bits. Assumes nothing.
-use mathlib.Core.Path.{_≡_, refl, sym, ap, ap₂, _∙_}
+-- What the page of a word and its bits below the page's size tell: x stands for these bits. Assumes nothing.
+use mathlib.Core.Path.{_≡_, refl, sym, ap, ap₂, _∙_, subst}
 use mathlib.Core.Bool.{true, false}
 use mathlib.Core.Logic.{_≢_}
-use Prim.Native.Nat.{ℕ, _+_, _-_, _*_, _/_, _%_, _^_, _≤_, _<_}
-use native.Mathlib.Nat.{zero-mul, mod-lt, div-add-mod', div-eq-of-lt}
+use Prim.Native.Nat.{ℕ, suc, _+_, _-_, _*_, _/_, _%_, _^_, _≤_, _<_}
+use native.Mathlib.Nat.{suc-mul, mul-pos, mul-le-mul-right, mod-lt, div-add-mod', div-lt-iff-lt-mul}
 use native.Mathlib.Omega.{arith}
-use lib.Dec.{ltb, eqb}
+use lib.Dec.{leb, ltb}
 use lib.Bits.{bitAnd, and-mask, and-block}
-use lib.Pow.{pow-pos, pow-add, shr-shr, mod-pow-add}
-use borrow.Author.Tests.{eqb-true, eq-eqb, ne-eqb, ltb-true, lt-ltb}
-use Rattle.memory.specs.Geometry.{address, pageOf, place}
+use lib.Pow.{pow-pos, pow-add, pow-mono, mod-pow-add}
+use borrow.Author.Tests.{eq-eqb, ne-eqb, ltb-true, lt-ltb, leb-true, le-leb}
+use Rattle.memory.specs.Geometry.{pageWords, pageBytes, addressEnd, address, pageOf, place}
 use Rattle.memory.specs.Entry.{entry, accessible, rights}
-use Rattle.memory.proofs.Widths.{page-by-shift, words-most}
+use Rattle.memory.proofs.Geometry.{bytes-pos, addressEnd-is}
+use Rattle.memory.proofs.Widths.{words-most}
 use Rattle.soundness.specs.Test.{virtual}
 use Rattle.forms.proofs.Laws.Tests.{same-test}
 
@@ -21,31 +22,49 @@ word-parts b w = div-add-mod' w (4 * 2 ^ b)
 
 -- ---- an address
 
--- a number without bits above its lowest n
-no-high : (v n : ℕ) → eqb (v / 2 ^ n) 0 ≡ ltb v (2 ^ n)
-no-high v n = same-test (eqb (v / 2 ^ n) 0) (ltb v (2 ^ n)) there back
+-- n pages end at an address: a word below it names one of them
+pub page-below : (b w n : ℕ) → ltb w (address b n) ≡ ltb (pageOf b w) n
+page-below b w n = same-test (ltb w (address b n)) (ltb (pageOf b w) n) there back
   where
-    there : eqb (v / 2 ^ n) 0 ≡ true → ltb v (2 ^ n) ≡ true
-    there e =
-        let z : v / 2 ^ n * 2 ^ n ≡ 0 = ap (λ (q : ℕ). q * 2 ^ n) (eqb-true (v / 2 ^ n) 0 e) ∙ zero-mul (2 ^ n) in
-        lt-ltb v (2 ^ n) (omega (arith, div-add-mod' v (2 ^ n), mod-lt v (pow-pos n)))
+    there : ltb w (address b n) ≡ true → ltb (pageOf b w) n ≡ true
+    there e = lt-ltb (pageOf b w) n (div-lt-iff-lt-mul (bytes-pos b) .1 (ltb-true w (address b n) e))
 
-    back : ltb v (2 ^ n) ≡ true → eqb (v / 2 ^ n) 0 ≡ true
-    back e = eq-eqb (v / 2 ^ n) 0 (div-eq-of-lt (ltb-true v (2 ^ n) e))
+    back : ltb (pageOf b w) n ≡ true → ltb w (address b n) ≡ true
+    back e = lt-ltb w (address b n) (div-lt-iff-lt-mul (bytes-pos b) .0 (ltb-true (pageOf b w) n e))
+
+-- the last virtual page ends where the addresses do
+last-end : (b : ℕ) → address b (pageWords b * pageWords b - 1) + pageBytes b ≡ addressEnd b
+last-end b =
+    let l : 0 < pageWords b * pageWords b = mul-pos (pow-pos b) (pow-pos b) in
+    let e : suc (pageWords b * pageWords b - 1) ≡ pageWords b * pageWords b = omega arith in
+    sym (suc-mul (pageWords b * pageWords b - 1) (pageBytes b)) ∙ ap (λ (x : ℕ). x * pageBytes b) e ∙ sym (addressEnd-is b)
+
+pub last-fits : (b : ℕ) → b ≤ 10 → address b (pageWords b * pageWords b - 1) < 4294967296
+last-fits b h =
+    let l : addressEnd b ≤ 4294967296 = pow-mono {i = 3 * b + 2} {j = 32} (omega arith) in
+    omega (arith, last-end b, bytes-pos b)
 
 module _ (b v : ℕ) {x : ℕ} (e : x ≡ place b v) where
   pub virtual-not : x ≢ 0 → false ≡ virtual b v
   unfolding virtual
   virtual-not n = rw (ne-eqb (address b (pageOf b v)) v (λ z. n (omega (arith, word-parts b v)))) refl
 
-  -- k is the page number: a virtual page's has no bit above the two indices
-  pub virtual-at : x ≡ 0 → {k : ℕ} → k ≡ pageOf b v → eqb (k / 2 ^ (2 * b)) 0 ≡ virtual b v
+  -- a is the address of the last virtual page
+  pub virtual-at : x ≡ 0 → {a : ℕ} → a ≡ address b (pageWords b * pageWords b - 1) → leb v a ≡ virtual b v
   unfolding virtual
-  virtual-at z {k} q =
-      let n : b + 2 + 2 * b ≡ 3 * b + 2 = omega arith in
-      let p : k ≡ v / 2 ^ (b + 2) = q ∙ sym (page-by-shift b v) in
-      let s : k / 2 ^ (2 * b) ≡ v / 2 ^ (3 * b + 2) = ap (λ (y : ℕ). y / 2 ^ (2 * b)) p ∙ shr-shr v (b + 2) (2 * b) ∙ ap (λ (y : ℕ). v / 2 ^ y) n in
-      rw (eq-eqb (address b (pageOf b v)) v (omega (arith, word-parts b v)), s) (no-high v (3 * b + 2))
+  virtual-at z {a} q =
+      let s : address b (pageOf b v) ≡ v = omega (arith, word-parts b v) in
+      rw (eq-eqb (address b (pageOf b v)) v s) (same-test (leb v a) (ltb v (addressEnd b)) there (back s))
+    where
+      there : leb v a ≡ true → ltb v (addressEnd b) ≡ true
+      there t = lt-ltb v (addressEnd b) (omega (arith, leb-true v a t, q, last-end b, bytes-pos b))
+
+      back : address b (pageOf b v) ≡ v → ltb v (addressEnd b) ≡ true → leb v a ≡ true
+      back s t =
+          let u = subst (λ (y : ℕ). v < y) (addressEnd-is b) (ltb-true v (addressEnd b) t) in
+          let l : pageOf b v < pageWords b * pageWords b = div-lt-iff-lt-mul (bytes-pos b) .1 u in
+          let n : address b (pageOf b v) ≤ address b (pageWords b * pageWords b - 1) = mul-le-mul-right (pageBytes b) (omega arith) in
+          le-leb v a (omega (arith, n, s, q))
 
 -- ---- a page table word
 

@@ -5,29 +5,16 @@ use mathlib.Core.Bool.{Bool, true, false, not, _&&_, _||_}
 use Prim.Native.Nat.{ℕ, _+_, _-_, _≤_, _<_, min}
 use native.Mathlib.Omega.{arith}
 use native.Mathlib.Decide.{decLt}
-use lib.Bits.{bitOr, or-add-and, and-le-l, and-le-r}
+use lib.Bits.{bitOr}
 use lib.Dec.{leb, eqb}
 use lib.ListN.{length, getD, List·getD-eq-default}
-use borrow.Author.Tests.{eqb-true, eq-eqb, le-leb, lt-leb}
+use borrow.Author.Tests.{eq-eqb, le-leb, lt-leb}
 use Rattle.walk.specs.Finite.{from, all}
-use Rattle.walk.specs.Reflect.{eq?, both}
 use Rattle.memory.specs.Geometry.{pageWords}
 use Rattle.memory.specs.Words.{word, index}
+use Rattle.pages.proofs.Bits.{or-test}
 use Rattle.forms.proofs.Laws.Tests.{same-test, and-assoc}
 use Rattle.forms.proofs.Laws.Loops.{all-go-on, all-at, all-yes}
-
-pub or-zero : (x y : ℕ) → eqb (bitOr x y) 0 ≡ eqb x 0 && eqb y 0
-or-zero x y = same-test (eqb (bitOr x y) 0) (eqb x 0 && eqb y 0) there back
-  where
-    there : eqb (bitOr x y) 0 ≡ true → eqb x 0 && eqb y 0 ≡ true
-    there e =
-        let z : bitOr x y ≡ 0 = eqb-true (bitOr x y) 0 e in
-        both {P = x ≡ 0} {Q = y ≡ 0} eq? eq? .1 (omega (arith, or-add-and x y, and-le-r x y), omega (arith, or-add-and x y, and-le-l x y))
-
-    back : eqb x 0 && eqb y 0 ≡ true → eqb (bitOr x y) 0 ≡ true
-    back e =
-        let p = both {P = x ≡ 0} {Q = y ≡ 0} eq? eq? .0 e in
-        eq-eqb (bitOr x y) 0 (omega (arith, or-add-and x y, p .0, p .1))
 
 -- f at each: j is what was joined below i, w what is joined at i
 module _ {o : Bool} (f : ℕ → Bool) (n i : ℕ) where
@@ -35,7 +22,7 @@ module _ {o : Bool} (f : ℕ → Bool) (n i : ℕ) where
   join-more j w h e v =
       v ∙ ap (λ (t : Bool). eqb j 0 && t) (all-go-on f n i h ∙ ap (λ (t : Bool). t && all f (from (n - (i + 1)) (i + 1))) (sym e))
       ∙ and-assoc (eqb j 0) (eqb w 0) (all f (from (n - (i + 1)) (i + 1)))
-      ∙ ap (λ (t : Bool). t && all f (from (n - (i + 1)) (i + 1))) (sym (or-zero j w))
+      ∙ ap (λ (t : Bool). t && all f (from (n - (i + 1)) (i + 1))) (sym (or-test j w))
 
   pub join-end : (j : ℕ) → all f (from (n - i) i) ≡ true → o ≡ eqb j 0 && all f (from (n - i) i) → eqb j 0 ≡ o
   join-end j e v = sym (v ∙ ap (λ (t : Bool). eqb j 0 && t) e ∙ last (eqb j 0))

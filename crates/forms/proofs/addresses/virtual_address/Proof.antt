@@ -12,21 +12,13 @@ returns c =
     let s = c .before .before .args in
     virtual-not (s .b) (s .v) (c .before .place .ensures) (c .if1 .taken)
 
-virtual-page-requires : tie.Need-virtual-page-requires
-virtual-page-requires c κs = search needs
-
-mul-result : tie.Need-mul-result
-mul-result c = search needs
-
-shr-result : tie.Need-shr-result
-shr-result c = search needs
+last-address-requires : tie.Need-last-address-requires
+last-address-requires c κs = search needs
 
 returns-2 : tie.Need-returns-2
 returns-2 c =
-    let s = c .before .before .before .before .args in
-    virtual-at (s .b) (s .v) (c .before .before .before .place .ensures) (c .before .before .if1 .left) (c .before .virtual-page .ensures)
+    let s = c .before .before .before .args in
+    virtual-at (s .b) (s .v) (c .before .before .place .ensures) (c .before .if1 .left) (c .last-address .ensures)
 
 pub virtual-address-spec : {M : Type 1} → statement M
-virtual-address-spec =
-    tie.close
-    (tie.spec place-requires returns virtual-page-requires mul-result shr-result returns-2)
+virtual-address-spec = tie.close (tie.spec place-requires returns last-address-requires returns-2)
