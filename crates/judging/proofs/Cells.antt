@@ -49,7 +49,7 @@ module _ (b : ℕ) (m : List ℕ) where
     pub cells : (v : ℕ) → Has b m d v → Cell d v
     pub none : mapping b m d 0 ≡ 0
     pub shut : Q.shutCount b m d ≡ Q.dueCount b m d
-    pub lent : d ≢ 1 → Q.lentCount b m (parent b m d) (word b m d 0) ≡ Q.mappedCount b m d
+    pub lent : d ≢ 1 → (Q.top 0 (Q.sources b m d) ≢ Q.largest → ⊥) → Q.lentCount b m (parent b m d) (word b m d 0) ≡ Q.mappedCount b m d
 
   childCell? : (d v : ℕ) → Tells (Q.childCell b m d v) (ChildCell d v (C.childOf b m d v))
   unfolding Q.childCell
@@ -77,7 +77,7 @@ module _ (b : ℕ) (m : List ℕ) where
       one e q = omega arith
 
   pub partition? : (d : ℕ) → Tells (Q.partitionTest b m d) (Judged d)
-  unfolding Q.partitionTest
+  unfolding Q.partitionTest Q.rising
   partition? d =
       via (both (both (both (both (both (both (both
       (descriptor? b m d)
@@ -85,6 +85,6 @@ module _ (b : ℕ) (m : List ℕ) where
       (list? b m d))
       (threes? b m d))
       (all? (C.tabled b m d) (tabled-is b m d) (cell? d)))
-      eq?) eq?) (unless eq? eq?))
+      eq?) eq?) (unless eq? (unless (isn't eq?) eq?)))
       (λ (((((((e, i), l), t), c), n), s), k). record { descriptor = e; directory = i; list = l; threes = t; cells = c; none = n; shut = s; lent = k })
       (λ h. (((((((h .descriptor, h .directory), h .list), h .threes), h .cells), h .none), h .shut), h .lent))

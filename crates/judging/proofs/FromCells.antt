@@ -23,7 +23,7 @@ use Rattle.judging.specs.Quick as Q
 use Rattle.judging.proofs.Cells.{ChildCell, Cell, Judged, partition?}
 use Rattle.judging.proofs.Local.{Local, placed}
 use Rattle.judging.proofs.KernelCount.{count-others}
-use Rattle.judging.proofs.LentOnce.{count-back}
+use Rattle.judging.proofs.LentOnce.{Counts, count-back}
 
 virtual-zero : (b : ℕ) → Virtual b 0
 virtual-zero b =
@@ -72,9 +72,9 @@ module _ (b : ℕ) (m : List ℕ) where
     down {k} {d} {v} {c} t a u i n =
         placed b m (child-cell t a .right) (λ x y. S.FromParent b m x y c u) .0 (judged (child t a) .cells u i .mapped n .down (child-below t a))
 
-    counts : (k d v c : ℕ) → InTree b m k d → Child b m d v c → Q.lentCount b m d v ≡ Q.mappedCount b m c
-    counts k d v c t a =
-        placed b m (child-cell t a .right) (λ x y. Q.lentCount b m x y ≡ Q.mappedCount b m c) .0 (judged (child t a) .lent (child-below t a))
+    counts : (k d v c : ℕ) → InTree b m k d → Child b m d v c → Counts b m d v c
+    counts k d v c t a n =
+        placed b m (child-cell t a .right) (λ x y. Q.lentCount b m x y ≡ Q.mappedCount b m c) .0 (judged (child t a) .lent (child-below t a) n)
 
     named : {k d : ℕ} → InTree b m k d → (v : ℕ) → Has b m d v → S.Lent b m d v → (c : ℕ) × Child b m d (lent b m d v) c
     named {k} {d} t v i (n, l) = (C.childOf b m d (lent b m d v), judged t .cells v i .mapped n .named (λ e. omega arith) (λ e. omega arith))

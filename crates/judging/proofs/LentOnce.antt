@@ -1,11 +1,12 @@
--- Each page that a partition lends to a child is mapped in that child once, exactly where the pages lent and the pages mapped are as many. Assumes that
--- a page has room for a list of ten threes.
+-- Each page that a partition lends to a child is mapped in that child once, where the child's shadow 2 words rise, and exactly where the pages lent and
+-- the pages mapped are as many. Assumes that a page has room for a list of ten threes.
 use mathlib.Core.Path.{_≡_, refl, sym, ap, _∙_, subst}
 use mathlib.Core.List.{List}
 use mathlib.Core.Bool.{not}
 use mathlib.Core.Logic.{_≢_, _↔_}
 use Prim.Native.Nat.{ℕ, _≤_, _<_}
 use native.Mathlib.Omega.{arith}
+use native.Mathlib.Decide.{ℕ-discrete}
 use lib.Dec.{eqb}
 use lib.ListN.{length}
 use Rattle.walk.specs.Lists.{count}
@@ -19,6 +20,7 @@ use Rattle.soundness.proofs.Places.{tabled-once}
 use Rattle.soundness.proofs.Whole.{child-far}
 use Rattle.judging.specs.Quick as Q
 use Rattle.judging.proofs.Lengths.{no-more, same-length, image-inj}
+use Rattle.judging.proofs.Rising.{rising-once}
 use Rattle.judging.proofs.Local.{Local, MapsFrom, Back, kept, above-has}
 use Rattle.judging.proofs.Chains.{Unlent, Below, here, step, unlent-of, root-below}
 
@@ -52,6 +54,14 @@ module _ (b : ℕ) (m : List ℕ) where
   -- the addresses, in its parent, of the pages that c maps
   abbrev sources : ℕ → List ℕ
   sources c = image (above b m c) (mappedAt c)
+
+  sources-is : (c : ℕ) → Q.sources b m c ≡ sources c
+  unfolding mappedAt Q.sources
+  sources-is c = refl
+
+  -- what is told of the child c at v of d, where its shadow 2 words do not rise
+  abbrev pub Counts : ℕ → ℕ → ℕ → Type 0
+  Counts d v c = (Q.top 0 (Q.sources b m c) ≢ Q.largest → ⊥) → Q.lentCount b m d v ≡ Q.mappedCount b m c
 
   lengths : (d v c : ℕ) → (length (lentAt d v) ≡ length (sources c)) ↔ (Q.lentCount b m d v ≡ Q.mappedCount b m c)
   unfolding lentAt mappedAt Q.lentCount Q.mappedCount
@@ -98,20 +108,24 @@ module _ (b : ℕ) (m : List ℕ) where
             let w = next (reach x h n _ refl f) e (f .free) in
             (w .at, w .from)
 
-        -- and once, where the pages mapped are no more
-        one-source : Q.lentCount b m d v ≡ Q.mappedCount b m c → (x u w : ℕ) → MapsFrom b m c x u → MapsFrom b m c x w → u ≡ w
-        one-source q x u w (h, (n, e)) (i, (o, f)) = image-inj (above b m c) (mappedAt c) u w once (mapped-in c u .1 (h, n)) (mapped-in c w .1 (i, o)) (e ∙ sym f)
-          where
-            once : count (above b m c u) (sources c) ≤ 1
-            once = omega (
-              arith,
-              no-more (lentAt d v) (sources c) (lent-once d v) (lent-source d v c some) (omega (arith, lengths d v c .1 q)) (above b m c u),
-              lent-once d v (above b m c u),
-            )
+        -- and once, where its shadow 2 words rise or the pages mapped are no more
+        source-once : Counts d v c → (x : ℕ) → count x (sources c) ≤ 1
+        source-once q x = elim (ℕ-discrete (Q.top 0 (Q.sources b m c)) Q.largest) [
+          | no n ↦ rising-once (sources c) 0 (subst (λ (l : List ℕ). Q.top 0 l ≢ Q.largest) (sources-is c) n) x .0
+          | yes e ↦ omega (
+            arith,
+            no-more (lentAt d v) (sources c) (lent-once d v) (lent-source d v c some) (omega (arith, lengths d v c .1 (q (λ n. n e)))) x,
+            lent-once d v x,
+          )
+        ]
+
+        one-source : Counts d v c → (x u w : ℕ) → MapsFrom b m c x u → MapsFrom b m c x w → u ≡ w
+        one-source q x u w (h, (n, e)) (i, (o, f)) =
+            image-inj (above b m c) (mappedAt c) u w (source-once q (above b m c u)) (mapped-in c u .1 (h, n)) (mapped-in c w .1 (i, o)) (e ∙ sym f)
 
     -- ---- from the counts
 
-    module _ (big : 61 ≤ pageWords b) (counts : (k d v c : ℕ) → InTree b m k d → Child b m d v c → Q.lentCount b m d v ≡ Q.mappedCount b m c) where
+    module _ (big : 61 ≤ pageWords b) (counts : (k d v c : ℕ) → InTree b m k d → Child b m d v c → Counts d v c) where
       reaches : {k d : ℕ} → InTree b m k d → Reaches d
       reaches root x h n p q f = root-below b m s x h n q f
       reaches (child {k = k} {d = d} {v = v} {c = c} t a) u h n p q f =

@@ -1,4 +1,5 @@
 pub mod Lengths
+pub mod Rising
 pub mod Cells
 pub mod Local
 pub mod KernelCount

@@ -75,7 +75,7 @@ module _ (b : ℕ) (m : List ℕ) (s : S.Sound b m) (big : 61 ≤ pageWords b) w
     cells = cell t;
     none = f .none;
     shut = others-count b m local t (s .kernel k d t .others);
-    lent = from-lent t;
+    lent = λ n r. from-lent t n;
   }
 
   pub sound-quick : Quick b m

@@ -1,14 +1,14 @@
 -- The test of soundness as the code makes it: it looks at each table word a fixed number of times and searches for nothing. It agrees with the test of
--- the crate soundness (proofs/). Two sentences are told from counts: that no page but the children's kernel pages is inaccessible and not lent, from
--- the number of such pages; that each page lent to a child is mapped in it once, from the number of pages lent and of pages mapped, and from each page
--- having exactly one use. Assumes nothing.
-use mathlib.Core.List.{List}
+-- the crate soundness (proofs/). That no page but the children's kernel pages is inaccessible and not lent is told from the number of such pages. That
+-- each page lent to a child is mapped in it once is told from each page having exactly one use and from the child's shadow 2 words: no two are the same
+-- where they rise; where they don't, the pages lent are as many as those mapped. Assumes nothing.
+use mathlib.Core.List.{List, [], _∷_}
 use mathlib.Core.Bool.{Bool, true, cond, not, _&&_, _||_}
 use Prim.Native.Nat.{ℕ, _+_, _*_}
 use lib.Dec.{leb, ltb, eqb}
 use lib.ListN.{length}
 use Rattle.walk.specs.Lists.{sumOf}
-use Rattle.walk.specs.Finite.{from, all, keep}
+use Rattle.walk.specs.Finite.{from, all, keep, image}
 use Rattle.walk.specs.Walk as W
 use Rattle.memory.specs.Geometry.{pageWords, pageOf, mostThrees, mostDepth}
 use Rattle.memory.specs.Words.{word}
@@ -16,6 +16,17 @@ use Rattle.memory.specs.Entry.{entry, accessible, rights}
 use Rattle.memory.specs.Partition.{pages, current, parent, threes, tableFor, mapping, lent, above}
 use Rattle.memory.specs.Counts.{tabled, childAt, childOf, children}
 use Rattle.soundness.specs.Test.{virtual, headerTest, descriptorTest, directoryTest, listTest, rootTest, threesTest, childTest, fromParent, kernelShut, own, judged, under}
+
+-- the last of the numbers, where each is above the one before, from t on, and below the largest word; else the largest word, which stays
+abbrev pub largest : ℕ
+largest = 4294967295
+
+abbrev pub rise : ℕ → ℕ → ℕ
+rise t y = cond (ltb t y && ltb y largest) y largest
+
+unfoldable pub top : ℕ → List ℕ → ℕ
+top t [] = t
+top t (y ∷ ys) = top (rise t y) ys
 
 module _ (b : ℕ) (m : List ℕ) where
   -- a page table word that is not 0: a page of the memory, and no bit but those of accessible and rights
@@ -59,12 +70,19 @@ module _ (b : ℕ) (m : List ℕ) where
   unfoldable pub mappedCount : ℕ → ℕ
   mappedCount d = length (keep (λ v. not (eqb (mapping b m d v) 0)) (tabled b m d))
 
+  -- the shadow 2 words of the pages that d maps, in the order of their addresses
+  unfoldable pub sources : ℕ → List ℕ
+  sources d = image (above b m d) (keep (λ v. not (eqb (mapping b m d v) 0)) (tabled b m d))
+
+  unfoldable pub rising : ℕ → Bool
+  rising d = not (eqb (top 0 (sources d)) largest)
+
   -- what is asked of a partition before its pages are marked
   unfoldable pub partitionTest : ℕ → Bool
   partitionTest d =
       descriptorTest b m d && all (directoryTest b m d) (from (pageWords b) 0) && listTest b m d && threesTest b m d
       && all (cell d) (tabled b m d) && eqb (mapping b m d 0) 0 && eqb (shutCount d) (dueCount d)
-      && (eqb d 1 || eqb (lentCount (parent b m d) (word b m d 0)) (mappedCount d))
+      && (eqb d 1 || (rising d || eqb (lentCount (parent b m d) (word b m d 0)) (mappedCount d)))
 
   unfoldable pub quickTest : Bool
   quickTest =
