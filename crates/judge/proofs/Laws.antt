@@ -14,3 +14,5 @@ pub mod Judged
 pub mod Lent
 pub mod Bits
 pub mod Outside
+pub mod Joined
+pub mod Flat

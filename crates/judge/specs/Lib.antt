@@ -4,3 +4,4 @@ pub mod Rows
 pub mod Blocks
 pub mod Bits
 pub mod Alone
+pub mod Asked

@@ -12,7 +12,7 @@ use Rattle.memory.specs.Entry.{accessible, rights, allRights, holds}
 use Rattle.memory.specs.Partition.{directory, shadow1, parent, threes, tableFor, tableWord}
 use Rattle.memory.specs.Counts.{childAt}
 use Rattle.soundness.specs.Test.{virtual, childTest, kernelShut}
-use Rattle.judging.specs.Quick.{entryTest}
+use Rattle.judging.specs.Quick.{entryTest, rise}
 
 abbrev pub virtualPages : ℕ → ℕ
 virtualPages b = pageWords b * pageWords b
@@ -39,9 +39,9 @@ module _ (b : ℕ) (m : List ℕ) where
   abbrev pub dueWords : ℕ → ℕ → ℕ
   dueWords w x = cond (childWords w x) (5 + 3 * threes b m (pageOf b w)) 0
 
-  -- the directory, the shadow 1 and the child's address of the parent of d
-  abbrev pub Lends : ℕ → ℕ → ℕ → ℕ → Type 0
-  Lends d dir sh1 v = (dir ≡ directory b m (parent b m d)) × (sh1 ≡ shadow1 b m (parent b m d)) × (v ≡ word b m d 0)
+  -- the directory and the shadow 1 of d
+  abbrev pub Lends : ℕ → ℕ → ℕ → Type 0
+  Lends d dir sh1 = (dir ≡ directory b m d) × (sh1 ≡ shadow1 b m d)
 
   -- the page whose word is w comes from the parent, at address y there, which lends it to the child at v
   abbrev pub fromWords : ℕ → ℕ → ℕ → ℕ → ℕ → Bool
@@ -53,9 +53,9 @@ module _ (b : ℕ) (m : List ℕ) where
   abbrev pub lentWord : ℕ → ℕ → Bool
   lentWord d x = virtual b x && not (eqb (tableFor b m d x) 0) && childAt b m d x
 
-  -- a word that passed above, or 0
+  -- a word above 1 that passed, or 0
   abbrev pub Passed : ℕ → ℕ → Type 0
-  Passed d x = (eqb x 0 || lentWord d x) ≡ true
+  Passed d x = (eqb x 0 || not (leb x 1) && lentWord d x) ≡ true
 
   abbrev pub shadow1Word : ℕ → ℕ → ℕ → ℕ → Bool
   shadow1Word d v w x =
@@ -68,6 +68,14 @@ module _ (b : ℕ) (m : List ℕ) where
       cond (eqb w 0) (eqb x 0 && eqb y 0)
       (entryTest b m w && virtual b y && shadow1Word d v w x
       && (eqb d 1 || fromWords (directory b m (parent b m d)) (shadow1 b m (parent b m d)) (word b m d 0) w y))
+
+-- the last word above 1, once x is reached
+abbrev pub lastWord : ℕ → ℕ → ℕ
+lastWord to x = cond (leb x 1) to x
+
+-- the last shadow 2 word of a page that is mapped, as long as they rise, once w and y are reached
+abbrev pub riseAt : ℕ → ℕ → ℕ → ℕ
+riseAt t w y = cond (eqb w 0) t (rise t y)
 
 -- the words of the root at virtual page v, with t threes: it "maps virtual page v (1 to F) to page 5+3T+v"
 abbrev pub rootWord : ℕ → ℕ → ℕ → ℕ → ℕ → Bool

@@ -34,7 +34,7 @@ pub fn judge_partition(b: u32, m: &[u32], seen: &mut [u32], d: PhysicalPage, lef
     if !t.passed {
         return false;
     }
-    if !cells_test(b, m, d) {
+    if !cells_test(b, m, d, t.mapped) {
         return false;
     }
     if t.due == 0 {

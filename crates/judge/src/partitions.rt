@@ -1,66 +1,38 @@
 // What a partition is asked by itself, but for its cells: of its own pages, and of the counts of its tables once they are swept.
 use crate::marks::mark_kernel;
-use crate::tally::lent_count;
 use crate::tally::tally;
 use forms::forms_test;
 use pages::PhysicalPage;
 use pages::mapping;
-use pages::parent;
-use pages::read_word;
 ghost use mathlib.Core.Path.{_≡_};
-ghost use mathlib.Core.Bool.{true, cond, _&&_, _||_};
+ghost use mathlib.Core.Bool.{true, cond, _&&_};
 ghost use mathlib.Core.Option.{none};
 ghost use lib.Dec.{eqb};
 ghost use Rattle.walk.specs.Marks.{answer, marks};
-ghost use Rattle.memory.specs.Words.{word};
 ghost use Rattle.memory.specs.Partition;
 ghost use Rattle.soundness.specs.Test.{own};
-ghost use Rattle.judging.specs.Quick.{dueCount, lentCount};
+ghost use Rattle.judging.specs.Quick.{dueCount, mappedCount};
 ghost use Rattle.judge.specs.Bits.{marksIn};
 ghost use Rattle.judge.specs.Alone.{aloneTest};
 ghost use Rattle.pages.specs.Width.{Width};
 
-// "conversely each lent page is mapped in that child once": the parent of d lends it n pages.
-pub fn lent_test(b: u32, m: &[u32], d: PhysicalPage, n: u32) -> bool
+// "Virtual page 0 is never mapped", and "no other page that isn't lent is inaccessible" than the children's kernel pages: shut pages of d are neither lent
+// nor accessible, and its children have due kernel pages.
+pub fn tables_test(b: u32, m: &[u32], d: PhysicalPage, shut: u32, due: u64) -> bool
     requires { ⌜ Width b ⌝ }
-    ensures { λ r.
-        ⌜
-        r
-        ≡ (eqb (d .0) 1
-        || eqb (lentCount b (now (m .entry)) (Partition.parent b (now (m .entry)) (d .0)) (word b (now (m .entry)) (d .0) 0)) n)
-        ⌝ }
-{
-    if d.0 == 1 {
-        return true;
-    }
-    lent_count(b, m, parent(b, m, d), read_word(b, m, d, 0)) == n
-}
-
-// Also: "Virtual page 0 is never mapped", and "no other page that isn't lent is inaccessible" than the children's kernel pages. d maps mapped pages, shut of
-// them are neither lent nor accessible, and its children have due kernel pages.
-pub fn tables_test(b: u32, m: &[u32], d: PhysicalPage, mapped: u32, shut: u32, due: u64) -> bool
-    requires { ⌜ Width b ⌝ }
-    ensures { λ r.
-        ⌜
-        r
-        ≡ (eqb (Partition.mapping b (now (m .entry)) (d .0) 0) 0
-        && eqb shut due
-        && (eqb (d .0) 1
-        || eqb (lentCount b (now (m .entry)) (Partition.parent b (now (m .entry)) (d .0)) (word b (now (m .entry)) (d .0) 0)) mapped))
-        ⌝ }
+    ensures { λ r. ⌜ r ≡ (eqb (Partition.mapping b (now (m .entry)) (d .0) 0) 0 && eqb shut due) ⌝ }
 {
     if mapping(b, m, d, 0) != 0 {
         return false;
     }
-    if (shut as u64) != due {
-        return false;
-    }
-    lent_test(b, m, d, mapped)
+    (shut as u64) == due
 }
 
-// Whether a partition passed its test and each of its pages could be marked; and where they did, the kernel pages of its children.
+// Whether a partition passed its test and each of its pages could be marked; and where they did, the pages that it maps and the kernel pages of its
+// children.
 pub struct Alone {
     pub passed: bool,
+    pub mapped: u32,
     pub due: u64,
 }
 
@@ -71,18 +43,20 @@ pub fn judge_alone(b: u32, m: &[u32], seen: &mut [u32], d: PhysicalPage) -> Alon
         ⌜
         (cond (aloneTest b (now (m .entry)) (d .0)) (marks (marksIn (now (seen .entry))) (own b (now (m .entry)) (d .0))) none
         ≡ answer (r .passed) (marksIn (now (seen .exit))))
-        × (r .passed ≡ true → r .due ≡ dueCount b (now (m .entry)) (d .0))
+        × (r .passed ≡ true → (r .mapped ≡ mappedCount b (now (m .entry)) (d .0)) × (r .due ≡ dueCount b (now (m .entry)) (d .0)))
         ⌝ }
 {
     if !forms_test(b, m, d) {
         return Alone {
             passed: false,
+            mapped: 0,
             due: 0,
         };
     }
     if !mark_kernel(b, m, seen, d) {
         return Alone {
             passed: false,
+            mapped: 0,
             due: 0,
         };
     }
@@ -90,11 +64,13 @@ pub fn judge_alone(b: u32, m: &[u32], seen: &mut [u32], d: PhysicalPage) -> Alon
     if !t.marked {
         return Alone {
             passed: false,
+            mapped: 0,
             due: 0,
         };
     }
     Alone {
-        passed: tables_test(b, m, d, t.mapped, t.shut, t.due),
+        passed: tables_test(b, m, d, t.shut, t.due),
+        mapped: t.mapped,
         due: t.due,
     }
 }

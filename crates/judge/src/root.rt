@@ -2,6 +2,7 @@
 use crate::rows::next_word;
 use crate::rows::table_of;
 use forms::root_pages;
+use forms::zeros;
 use pages::PhysicalPage;
 use pages::VirtualPage;
 use pages::directory;
@@ -18,7 +19,7 @@ use pages::threes_for;
 use pages::words_of;
 ghost use mathlib.Core.Path.{_≡_};
 ghost use mathlib.Core.Bool.{true};
-ghost use Prim.Native.Nat.{_+_, _*_, _≤_, _<_};
+ghost use Prim.Native.Nat.{_+_, _-_, _*_, _≤_, _<_, min};
 ghost use lib.ListN.{length, getD};
 ghost use Rattle.walk.specs.Finite.{from, all};
 ghost use Rattle.memory.specs.Geometry.{pageWords};
@@ -61,7 +62,18 @@ fn root_bit(b: u32, t: u32, flat: u32, v: VirtualPage, w: u32, y: u32) -> u32
     0
 }
 
-// A row of the root, from virtual page v on. The places that both tables have are counted without a branch.
+// Of the n places of a row, from virtual page v on, those that are no higher than the last flat page.
+fn flat_places(flat: u32, v: VirtualPage, n: usize) -> usize
+    ensures { λ r. ⌜ r ≡ min (flat + 1 - v .0) n ⌝ }
+{
+    if flat < v.0 {
+        return 0;
+    }
+    least(((flat - v.0) as usize) + 1, n)
+}
+
+// A row of the root, from virtual page v on. Of the places that both tables have, those up to the last flat page are counted without a branch; the words at
+// the others are 0.
 pub fn root_row(b: u32, t: u32, flat: u32, v: VirtualPage, pt: &[u32], s2: &[u32]) -> bool
     requires { ⌜ Width b ⌝ }
     requires row { ⌜ v .0 + pageWords b ≤ virtualPages b ⌝ }
@@ -74,13 +86,20 @@ pub fn root_row(b: u32, t: u32, flat: u32, v: VirtualPage, pt: &[u32], s2: &[u32
         ⌝ }
 {
     let n = least(pt.len(), s2.len());
+    let e = flat_places(flat, v, n);
     let mut k: u32 = 0;
     let mut i = 0;
-    while i < n {
+    while i < e {
         k += root_bit(b, t, flat, VirtualPage(v.0 + (i as u32)), pt[i], s2[i]);
         i += 1;
     }
-    if (k as usize) < n {
+    if (k as usize) < e {
+        return false;
+    }
+    if !zeros(pt, e, n) {
+        return false;
+    }
+    if !zeros(s2, e, n) {
         return false;
     }
     let end = page_words(b);

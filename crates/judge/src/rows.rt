@@ -21,20 +21,31 @@ pub fn table_of(b: u32, m: &[u32], w: u32) -> &[u32]
     words_of(b, m, page_of(b, w))
 }
 
-// The first word from i on that is not 0, or the end. Blocks without a word are passed over.
+// The first word from i on that is not 0, or the end: one by one up to the next block, past the blocks without a word, and one by one in the block that has
+// one or in what is left.
 pub fn next_word(s: &[u32], i: usize) -> usize
     requires { ⌜ i ≤ length (now s) ⌝ }
     ensures { λ r. ⌜ r ≡ seek (used (now (s .entry))) (length (now (s .entry)) - i) i ⌝ }
 {
+    let n = s.len();
     let mut j = i;
-    while j < s.len() {
-        if block_of(s, s.len(), j, 0, 8) {
-            j += 8;
-        } else if s[j] != 0 {
+    while j % 8 != 0 {
+        if j == n {
             return j;
-        } else {
-            j += 1;
         }
+        if s[j] != 0 {
+            return j;
+        }
+        j += 1;
+    }
+    while block_of(s, n, j, 0, 8) {
+        j += 8;
+    }
+    while j < n {
+        if s[j] != 0 {
+            return j;
+        }
+        j += 1;
     }
     j
 }

@@ -10,12 +10,14 @@ use pages::count_of;
 use pages::directory;
 use pages::page_of;
 use pages::page_words;
+use pages::parent;
 use pages::read;
+use pages::read_word;
 use pages::shadow1;
 use pages::threes;
 use pages::words_of;
 ghost use mathlib.Core.Path.{_≡_};
-ghost use mathlib.Core.Bool.{true, not};
+ghost use mathlib.Core.Bool.{true, not, _||_};
 ghost use mathlib.Core.Option.{some};
 ghost use Prim.Native.Nat.{_*_, _≤_};
 ghost use lib.Dec.{eqb};
@@ -23,6 +25,8 @@ ghost use lib.ListN.{length, getD};
 ghost use Rattle.walk.specs.Finite.{from};
 ghost use Rattle.walk.specs.Marks.{answer, mark, marks};
 ghost use Rattle.memory.specs.Geometry.{pageWords, pageOf};
+ghost use Rattle.memory.specs.Words.{word};
+ghost use Rattle.memory.specs.Partition;
 ghost use Rattle.soundness.specs.Test.{handPages};
 ghost use Rattle.judging.specs.Quick.{shutCount, dueCount, lentCount, mappedCount};
 ghost use Rattle.judge.specs.Run.{run, adding, marking, bit};
@@ -69,7 +73,7 @@ fn due_pages(b: u32, m: &[u32], w: u32, x: u32) -> u64
     5 + 3 * (threes(b, m, page_of(b, w)) as u64)
 }
 
-// A row, whose page table is pt and whose shadow 1 table is s1.
+// A row, whose page table is pt and whose shadow 1 table is s1. A page that is lent is only counted as mapped.
 pub fn tally_row(b: u32, m: &[u32], seen: &mut [u32], pt: &[u32], s1: &[u32]) -> Swept
     requires { ⌜ Width b ⌝ }
     requires short { ⌜ length (now pt) ≤ pageWords b ⌝ }
@@ -99,17 +103,19 @@ pub fn tally_row(b: u32, m: &[u32], seen: &mut [u32], pt: &[u32], s1: &[u32]) ->
             j += 1;
         } else {
             let x = read(s1, j);
-            if !mark_hand(b, seen, w, x) {
-                return Swept {
-                    marked: false,
-                    mapped,
-                    shut,
-                    due,
-                };
+            if x <= 1 {
+                if !mark_hand(b, seen, w, x) {
+                    return Swept {
+                        marked: false,
+                        mapped,
+                        shut,
+                        due,
+                    };
+                }
+                shut += shut_bit(w, x);
+                due += due_pages(b, m, w, x);
             }
             mapped += 1;
-            shut += shut_bit(w, x);
-            due += due_pages(b, m, w, x);
             j += 1;
         }
     }
@@ -186,4 +192,20 @@ pub fn lent_count(b: u32, m: &[u32], d: PhysicalPage, v: u32) -> u32
         i = next_word(dir, i + 1);
     }
     k
+}
+
+// "conversely each lent page is mapped in that child once": the parent of d lends it n pages.
+pub fn lent_test(b: u32, m: &[u32], d: PhysicalPage, n: u32) -> bool
+    requires { ⌜ Width b ⌝ }
+    ensures { λ r.
+        ⌜
+        r
+        ≡ (eqb (d .0) 1
+        || eqb (lentCount b (now (m .entry)) (Partition.parent b (now (m .entry)) (d .0)) (word b (now (m .entry)) (d .0) 0)) n)
+        ⌝ }
+{
+    if d.0 == 1 {
+        return true;
+    }
+    lent_count(b, m, parent(b, m, d), read_word(b, m, d, 0)) == n
 }

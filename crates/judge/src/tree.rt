@@ -59,7 +59,7 @@ pub fn judge_root(b: u32, m: &[u32], seen: &mut [u32]) -> bool
     if !t.passed {
         return false;
     }
-    if !cells_test(b, m, PhysicalPage(1)) {
+    if !cells_test(b, m, PhysicalPage(1), t.mapped) {
         return false;
     }
     if t.due == 0 {

@@ -40,6 +40,17 @@ module _ {S : Type 0} (f : S → ℕ → S) where
   run-image h [] s = refl
   run-image h (x ∷ xs) s = run-image h xs (f s (h x))
 
+  -- over those that p does not pick
+  pub run-keep : (p : ℕ → Bool) (xs : List ℕ) (s : S) → run f s (keep (λ x. not (p x)) xs) ≡ run (λ t x. cond (p x) t (f t x)) s xs
+  unfolding run keep
+  run-keep p [] s = refl
+  run-keep p (x ∷ xs) s = go (p x) (run-keep p xs)
+    where
+      go : (t : Bool) → ((u : S) → run f u (keep (λ y. not (p y)) xs) ≡ run (λ u y. cond (p y) u (f u y)) u xs)
+          → run f s (cond (not t) (x ∷ keep (λ y. not (p y)) xs) (keep (λ y. not (p y)) xs)) ≡ run (λ u y. cond (p y) u (f u y)) (cond t s (f s x)) xs
+      go true e = e s
+      go false e = e (f s x)
+
   -- a state that no step changes
   pub run-stuck : (s : S) → ((x : ℕ) → f s x ≡ s) → (xs : List ℕ) → run f s xs ≡ s
   unfolding run
@@ -166,6 +177,10 @@ counted-next {o} p k i {c} {r} h q (a, e, f) = go (p i) (run-next (asking p) k i
       (λ y. absurd (omega arith)),
       (λ y. elim (decLt c i) [ yes l ↦ f l | no l ↦ sym (e (omega arith) ∙ s ∙ run-stuck (asking p) false (λ x. refl) (from (k - (i + 1)) (i + 1))) ]),
     )
+
+-- all of the first e passed
+pub counted-end : {o : Bool} (p : ℕ → Bool) (k : ℕ) {i e c : ℕ} → i ≡ e → c ≡ i → Counted o p k i c → o ≡ run (asking p) true (from (k - e) e)
+counted-end p k q z (a, f, g) = f z ∙ ap (λ (j : ℕ). run (asking p) true (from (k - j) j)) q
 
 -- a test at each: x is what the code was told at i, o what the whole comes to
 module _ {o : Bool} (p : ℕ → Bool) (k i : ℕ) where

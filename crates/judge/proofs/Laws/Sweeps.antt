@@ -1,13 +1,15 @@
 -- The sweeps over the tables of a partition d: what each comes to as a run over its addresses, and at a row by the words of its tables. Assumes nothing.
 use mathlib.Core.Path.{_≡_, refl, sym, ap, _∙_}
-use mathlib.Core.List.{List}
-use mathlib.Core.Bool.{Bool, true, false, not, _&&_, false≢true, and-comm}
+use mathlib.Core.Logic.{_≢_}
+use mathlib.Core.List.{List, [], _∷_}
+use mathlib.Core.Bool.{Bool, true, false, cond, not, _&&_, false≢true, and-comm}
 use mathlib.Core.Option.{Option, some}
 use Prim.Native.Nat.{ℕ, _+_, _-_, _*_, _≤_, _<_}
 use native.Mathlib.Omega.{arith}
 use lib.Dec.{eqb}
 use lib.ListN.{length, getD}
-use Rattle.walk.specs.Finite.{from, all}
+use borrow.Author.Tests.{ne-eqb}
+use Rattle.walk.specs.Finite.{from, all, keep, image}
 use Rattle.walk.specs.Marks.{Seen, each, mark, marks}
 use Rattle.memory.specs.Geometry.{pageWords, address, pageOf, threesFor, flatPages}
 use Rattle.memory.specs.Words.{word, page}
@@ -15,48 +17,74 @@ use Rattle.memory.specs.Partition.{pages, directory, shadow1, shadow2, parent, 
 use Rattle.memory.specs.Counts.{row, tabled, childAt, childOf, children, handAddresses}
 use Rattle.memory.proofs.Geometry.{page-address}
 use Rattle.soundness.specs.Test.{rootMapTest, fromParent, handPages}
-use Rattle.judging.specs.Quick.{childCell, lentCell, shadow1Cell, cell, shutCell, shutCount, dueCount, lentCount, mappedCount}
+use Rattle.judging.specs.Quick.{rise, top, childCell, lentCell, shadow1Cell, cell, shutCell, shutCount, dueCount, lentCount, mappedCount, sources}
 use Rattle.judge.specs.Blocks.{emptyBlock}
 use Rattle.judge.specs.Run.{run, adding, asking, marking, bit}
-use Rattle.judge.specs.Rows.{table, used, childWords, shutWords, handWords, dueWords, Lends, fromWords, cellWords, rootWord, rootWords}
-use Rattle.judge.proofs.Laws.Run.{run-skip, sum-on, length-run, sums-run, all-run, each-run}
+use Rattle.judge.specs.Rows.{table, used, childWords, shutWords, handWords, dueWords, Lends, fromWords, cellWords, riseAt, rootWord, rootWords}
+use Rattle.judge.proofs.Laws.Run.{run-image, run-keep, run-next, run-skip, sum-on, length-run, sums-run, all-run, each-run}
 use Rattle.judge.proofs.Laws.Blocks.{empty-word}
 use Rattle.judge.proofs.Laws.Rows.{cell-at, row-run, rows-short}
 
--- ---- a place at which all three words are 0 passes, and so does a block of them
+-- the last shadow 2 word of a row, as long as they rise, once a place is reached
+abbrev pub riseIn : List ℕ → List ℕ → ℕ → ℕ → ℕ
+riseIn pt s2 t j = riseAt t (getD pt j 0) (getD s2 j 0)
 
-module _ (b : ℕ) (m : List ℕ) (d v : ℕ) (r s t : List ℕ) where
-  abbrev cellOf : ℕ → Bool
-  cellOf x = cellWords b m d (address b (v + x)) (getD r x 0) (getD s x 0) (getD t x 0)
+-- ---- a block in which all three words are 0 at each place: its cells pass, and no page is mapped there
 
-  cell-empty : (x : ℕ) → getD r x 0 ≡ 0 → getD s x 0 ≡ 0 → getD t x 0 ≡ 0 → cellOf x ≡ true
-  cell-empty x e f g = rw (e, f, g) refl
+module _ (r s t : List ℕ) (n i : ℕ) {u : Bool} (hr : n ≤ length r) (hs : n ≤ length s) (ht : n ≤ length t)
+    (q : u ≡ (emptyBlock r n i && emptyBlock s n i && emptyBlock t n i)) (e : u ≡ true) where
+  three : (f g h : Bool) → (f && g && h) ≡ true → (f ≡ true) × (g ≡ true) × (h ≡ true)
+  three true true true z = (z, z, z)
+  three true true false z = absurd (false≢true z)
+  three true false h z = absurd (false≢true z)
+  three false g h z = absurd (false≢true z)
 
-  pub cells-past : (k n i : ℕ) {u : Bool} → n ≤ length r → n ≤ length s → n ≤ length t
-      → u ≡ (emptyBlock r n i && emptyBlock s n i && emptyBlock t n i) → u ≡ true → run (asking cellOf) true (from (k - i) i) ≡ run (asking cellOf) true (from (k - (i + 8)) (i + 8))
-  cells-past k n i hr hs ht q e =
+  empty : (x : ℕ) → i ≤ x → x < i + 8 → (getD r x 0 ≡ 0) × (getD s x 0 ≡ 0) × (getD t x 0 ≡ 0)
+  empty x a l =
       let (er, es, et) = three (emptyBlock r n i) (emptyBlock s n i) (emptyBlock t n i) (sym q ∙ e) in
-      run-skip (asking cellOf) k i (i + 8) true (omega arith)
-      (λ x a l. cell-empty x (empty-word n i r hr er x a l) (empty-word n i s hs es x a l) (empty-word n i t ht et x a l))
-    where
-      three : (f g h : Bool) → (f && g && h) ≡ true → (f ≡ true) × (g ≡ true) × (h ≡ true)
-      three true true true z = (z, z, z)
-      three true true false z = absurd (false≢true z)
-      three true false h z = absurd (false≢true z)
-      three false g h z = absurd (false≢true z)
+      (empty-word n i r hr er x a l, empty-word n i s hs es x a l, empty-word n i t ht et x a l)
+
+  pub cells-past : (b : ℕ) (m : List ℕ) (d v k : ℕ)
+      → run (asking (λ x. cellWords b m d (address b (v + x)) (getD r x 0) (getD s x 0) (getD t x 0))) true (from (k - i) i)
+      ≡ run (asking (λ x. cellWords b m d (address b (v + x)) (getD r x 0) (getD s x 0) (getD t x 0))) true (from (k - (i + 8)) (i + 8))
+  cells-past b m d v k =
+      run-skip (asking (λ x. cellWords b m d (address b (v + x)) (getD r x 0) (getD s x 0) (getD t x 0))) k i (i + 8) true (omega arith)
+      (λ x a l. let z = empty x a l in rw (z .0, z .1, z .2) refl)
+
+  pub rise-past : (k u : ℕ) → run (riseIn r t) u (from (k - i) i) ≡ run (riseIn r t) u (from (k - (i + 8)) (i + 8))
+  rise-past k u = run-skip (riseIn r t) k i (i + 8) u (omega arith) (λ x a l. ap (λ (w : ℕ). riseAt u w (getD t x 0)) (empty x a l .0))
+
+-- w and y are what the code read at i, r what it came to there, o what the whole comes to
+pub rise-next : (pt s2 : List ℕ) (k i t : ℕ) {o r w y : ℕ} → i < k → w ≡ getD pt i 0 → y ≡ getD s2 i 0 → r ≡ riseAt t w y
+    → o ≡ run (riseIn pt s2) t (from (k - i) i) → o ≡ run (riseIn pt s2) r (from (k - (i + 1)) (i + 1))
+rise-next pt s2 k i t {y = y} h e f q g =
+    g ∙ run-next (riseIn pt s2) k i h t
+    ∙ ap (λ (u : ℕ). run (riseIn pt s2) u (from (k - (i + 1)) (i + 1))) (sym (q ∙ ap (λ (z : ℕ). riseAt t z y) e ∙ ap (riseAt t (getD pt i 0)) f))
+
+-- what the code comes to at a place where a page is mapped, and where none is
+pub rise-mapped : (t w y : ℕ) {r : ℕ} → w ≢ 0 → r ≡ rise t y → r ≡ riseAt t w y
+rise-mapped t w y n q = q ∙ ap (λ (z : Bool). cond z t (rise t y)) (sym (ne-eqb w 0 n))
+
+pub rise-unmapped : (t w y : ℕ) → w ≡ 0 → t ≡ riseAt t w y
+rise-unmapped t w y e = ap (λ (z : ℕ). riseAt t z y) (sym e)
 
 -- the words that the code read
 pub cell-words : (b : ℕ) (m : List ℕ) (d v : ℕ) {w x y w′ x′ y′ : ℕ} → w ≡ w′ → x ≡ x′ → y ≡ y′ → cellWords b m d v w x y ≡ cellWords b m d v w′ x′ y′
 cell-words b m d v {w} {x} {y} {w′} {x′} {y′} e f g =
     ap (λ (z : ℕ). cellWords b m d v z x y) e ∙ ap (λ (z : ℕ). cellWords b m d v w′ z y) f ∙ ap (λ (z : ℕ). cellWords b m d v w′ x′ z) g
 
--- the lender that the code looked up
-pub from-lender : (b : ℕ) (m : List ℕ) (d w y : ℕ) {dir sh1 v : ℕ} → Lends b m d dir sh1 v
+-- the parent and the address there that the code looked up
+pub from-lender : (b : ℕ) (m : List ℕ) (d w y : ℕ) {dir sh1 v : ℕ} → Lends b m (parent b m d) dir sh1 → v ≡ word b m d 0
     → fromWords b m dir sh1 v w y ≡ fromWords b m (directory b m (parent b m d)) (shadow1 b m (parent b m d)) (word b m d 0) w y
-from-lender b m d w y (e, f, g) = rw (e, f, g)
+from-lender b m d w y (e, f) g = rw (e, f, g)
 
 pub root-words : (b t flat v : ℕ) {w y w′ y′ : ℕ} → w ≡ w′ → y ≡ y′ → rootWords b t flat v w y ≡ rootWords b t flat v w′ y′
 root-words b t flat v {w} {y} {w′} {y′} e f = ap (λ (x : ℕ). rootWords b t flat v x y) e ∙ ap (λ (x : ℕ). rootWords b t flat v w′ x) f
+
+top-run : (ys : List ℕ) (t : ℕ) → top t ys ≡ run rise t ys
+unfolding top run
+top-run [] t = refl
+top-run (y ∷ ys) t = top-run ys (rise t y)
 
 module _ (b : ℕ) (m : List ℕ) (d : ℕ) where
   -- what is added at an address
@@ -87,6 +115,17 @@ module _ (b : ℕ) (m : List ℕ) (d : ℕ) where
   pub lent-run : (x : ℕ) → lentCount b m d x ≡ run (adding (lentAt x)) 0 (tabled b m d)
   unfolding lentCount
   lent-run x = length-run (λ v. eqb (lent b m d v) x) (tabled b m d)
+
+  -- the last shadow 2 word, as long as they rise, once an address is reached
+  abbrev pub aboveAt : ℕ → ℕ → ℕ
+  aboveAt t v = riseAt t (mapping b m d v) (above b m d v)
+
+  pub rise-run : top 0 (sources b m d) ≡ run aboveAt 0 (tabled b m d)
+  unfolding sources
+  rise-run =
+      top-run (image (above b m d) (keep (λ v. not (eqb (mapping b m d v) 0)) (tabled b m d))) 0
+      ∙ run-image rise (above b m d) (keep (λ v. not (eqb (mapping b m d v) 0)) (tabled b m d)) 0
+      ∙ run-keep (λ t v. rise t (above b m d v)) (λ v. eqb (mapping b m d v) 0) (tabled b m d) 0
 
   pub cells-run : all (cell b m d) (tabled b m d) ≡ run (asking (cell b m d)) true (tabled b m d)
   cells-run = all-run (cell b m d) (tabled b m d)
@@ -127,6 +166,12 @@ module _ (b : ℕ) (m : List ℕ) (d : ℕ) where
     -- x and y are the words of index i in the shadows' pages
     y-at : {s2 sh2 : List ℕ} {y : ℕ} → sh2 ≡ page b m (shadow2 b m d) → y ≡ getD sh2 i 0 → s2 ≡ table b m y → (j : ℕ) → j < pageWords b → above b m d (address b (i * pageWords b + j)) ≡ getD s2 j 0
     y-at e2 ey et j l = cell-at b m (shadow2 b m d) i j e2 inside ey l ∙ ap (λ (t : List ℕ). getD t j 0) (sym et)
+
+    pub rise-row : {s2 sh2 : List ℕ} {y : ℕ} → sh2 ≡ page b m (shadow2 b m d) → y ≡ getD sh2 i 0 → s2 ≡ table b m y
+        → (t : ℕ) {r : ℕ} → r ≡ run (riseIn pt s2) t (from (pageWords b) 0) → r ≡ run aboveAt t (row b m d i)
+    rise-row {s2 = s2} e2 ey et t q =
+        q ∙ sym (row-run b m aboveAt d dir e (riseIn pt s2) i t h n
+        (λ j l u. ap (λ (w : ℕ). riseAt u w (above b m d (address b (i * pageWords b + j)))) (w-at j l) ∙ ap (riseAt u (getD pt j 0)) (y-at e2 ey et j l)))
 
     module _ {s1 sh1 : List ℕ} {x : ℕ} (e1 : sh1 ≡ page b m (shadow1 b m d)) (ex : x ≡ getD sh1 i 0) (es : s1 ≡ table b m x) where
       x-at : (j : ℕ) → j < pageWords b → lent b m d (address b (i * pageWords b + j)) ≡ getD s1 j 0

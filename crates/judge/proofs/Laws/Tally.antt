@@ -8,10 +8,12 @@ use Prim.Native.Nat.{ℕ, _+_, _-_, _*_, _≤_, _<_}
 use native.Mathlib.Omega.{arith}
 use lib.Dec.{eqb}
 use lib.ListN.{length, getD}
-use borrow.Author.Tests.{ne-eqb}
+use borrow.Author.Tests.{ne-eqb, lt-leb}
 use Rattle.walk.specs.Finite.{from}
 use Rattle.walk.specs.Marks.{Seen, answer, mark}
 use Rattle.memory.specs.Geometry.{pageWords, pageOf}
+use Rattle.memory.specs.Entry.{accessible}
+use Rattle.forms.proofs.Laws.Tests.{and-false}
 use Rattle.judge.specs.Run.{run, adding, marking, bit}
 use Rattle.judge.specs.Rows.{shutWords, handWords, dueWords}
 use Rattle.judge.specs.Bits.{marksIn}
@@ -106,26 +108,37 @@ module _ (b : ℕ) (m pt s1 : List ℕ) where
           ap (λ (y : ℕ). cond (handWords y (getD s1 j 0)) (mark (marksIn seen) (pageOf b y)) (some (marksIn seen))) (sym ew)
           ∙ ap (λ (y : ℕ). cond (handWords w y) (mark (marksIn seen) (pageOf b w)) (some (marksIn seen))) (sym ex) ∙ marked
 
-      pub tally-next : {s d : ℕ} → (s ≡ bit (shutWords w x)) × (s ≤ 1) → (d ≡ dueWords b m w x) × (d ≤ 12884901893) → length last ≡ length seen → not r ≡ false
-          → Tallied first last (mapped + 1) (shut + s) (due + d) (j + 1)
-      tally-next {s} {d} (es, hs) (ed, hd) same y =
+      pub tally-next : {seen' : List ℕ} {shut' due' s d : ℕ} → seen' ≡ last → shut' ≡ shut + s → due' ≡ due + d → (s ≡ bit (shutWords w x)) × (s ≤ 1)
+          → (d ≡ dueWords b m w x) × (d ≤ 12884901893) → length last ≡ length seen → not r ≡ false → Tallied first seen' (mapped + 1) shut' due' (j + 1)
+      tally-next n us ud (es, hs) (ed, hd) same y =
           let one : bit (not (eqb (getD pt j 0) 0)) ≡ 1 = ap (λ (q : Bool). bit (not q)) (ne-eqb (getD pt j 0) 0 (λ z. there (ew ∙ z))) in
           let shuts : bit (shutWords w x) ≡ bit (shutWords (getD pt j 0) (getD s1 j 0)) = ap (λ (q : ℕ). bit (shutWords q x)) ew ∙ ap (λ (q : ℕ). bit (shutWords (getD pt j 0) q)) ex in
           let dues : dueWords b m w x ≡ dueWords b m (getD pt j 0) (getD s1 j 0) = ap (λ (q : ℕ). dueWords b m q x) ew ∙ ap (λ (q : ℕ). dueWords b m (getD pt j 0) q) ex in
           record {
             inside = omega arith;
-            same-length = same ∙ t .same-length;
+            same-length = ap length n ∙ same ∙ t .same-length;
             mapped-most = omega (arith, t .mapped-most);
             shut-most = omega (arith, t .shut-most);
             due-most = omega (arith, t .due-most);
             mapped-run = next mappedStep mapped l (ap (λ (q : ℕ). mapped + q) (sym one)) (t .mapped-run);
-            shut-run = next shutStep shut l (ap (λ (q : ℕ). shut + q) (es ∙ shuts)) (t .shut-run);
-            due-run = next dueStep due l (ap (λ (q : ℕ). due + q) (ed ∙ dues)) (t .due-run);
-            hand-run = next handStep (some (marksIn seen)) l (step-is inHand markAt (marksIn seen) j r (marksIn last) marked-at y) (t .hand-run);
+            shut-run = next shutStep shut l (us ∙ ap (λ (q : ℕ). shut + q) (es ∙ shuts)) (t .shut-run);
+            due-run = next dueStep due l (ud ∙ ap (λ (q : ℕ). due + q) (ed ∙ dues)) (t .due-run);
+            hand-run =
+                next handStep (some (marksIn seen)) l
+                (ap (λ (q : List ℕ). some (marksIn q)) n ∙ step-is inHand markAt (marksIn seen) j r (marksIn last) marked-at y) (t .hand-run);
           }
 
       pub tally-stop : not r ≡ true → run handStep (some (marksIn first)) (from (pageWords b) 0) ≡ none
       tally-stop y = walk-stop inHand markAt (marksIn seen) j (pageWords b) r (marksIn last) (omega arith) marked-at y (t .hand-run)
+
+    -- where the page is lent, it is counted as mapped and no more
+    pub tally-lent : {w x : ℕ} {seen' : List ℕ} {shut' due' : ℕ} → j < length pt → w ≡ getD pt j 0 → x ≡ getD s1 j 0 → w ≢ 0 → 1 < x
+        → seen' ≡ seen → shut' ≡ shut → due' ≡ due → Tallied first seen' (mapped + 1) shut' due' (j + 1)
+    tally-lent {w} {x} l ew ex there lent n us ud =
+        let free : eqb x 0 ≡ false = ne-eqb x 0 (omega arith) in
+        let child : eqb x 1 ≡ false = ne-eqb x 1 (omega arith) in
+        tally-next true seen l ew ex there (rw (ne-eqb w 0 there, free, and-false (eqb (accessible w) 1)) refl) {s = 0} {d = 0} n (omega arith) (omega arith)
+        (rw (ne-eqb w 0 there, lt-leb x 1 lent) refl, omega arith) (rw (ne-eqb w 0 there, child) refl, omega arith) refl refl
 
     -- at the end of the row
     module _ (l : length pt ≤ j) where

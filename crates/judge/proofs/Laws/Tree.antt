@@ -9,15 +9,14 @@ use native.Mathlib.Omega.{arith}
 use lib.Dec.{eqb}
 use borrow.Author.Tests.{eq-eqb, ne-eqb}
 use Rattle.walk.specs.Lists.{sumOf}
-use Rattle.walk.specs.Finite.{all}
 use Rattle.walk.specs.Marks.{Seen, each, each-done, marks, answer}
 use Rattle.walk.specs.Walk as W
 use Rattle.memory.specs.Words.{word}
 use Rattle.memory.specs.Partition.{parent, threes, tableFor}
-use Rattle.memory.specs.Counts.{tabled, childAt, childOf, children}
+use Rattle.memory.specs.Counts.{childAt, childOf, children}
 use Rattle.soundness.specs.Test.{virtual, own, placed, under}
-use Rattle.judging.specs.Quick.{cell, dueCount, partitionTest}
-use Rattle.judge.specs.Alone.{aloneTest}
+use Rattle.judging.specs.Quick.{dueCount, mappedCount, partitionTest}
+use Rattle.judge.specs.Alone.{aloneTest, cellsTest}
 use Rattle.judge.proofs.Laws.Order.{partition-as}
 use Rattle.forms.proofs.Laws.Tests.{yes, no, and-false}
 
@@ -43,10 +42,10 @@ alone-marked {x} {y} {o} t e q = ap (λ (z : Bool). cond z o none) (sym e) ∙ g
     go true = q
     go false = refl
 
--- then with them: r is the code's answer to the test of its cells
+-- then with them: n is the code's number of the pages mapped, r its answer to the test of the cells
 module _ (b : ℕ) (m : List ℕ) (k : ℕ) (s : Seen) (d : ℕ) where
   pub alone-no : cond (aloneTest b m d) (marks s (own b m d)) none ≡ none → W.judge (children b m) (own b m) (partitionTest b m) k s d ≡ none
-  alone-no e = go (aloneTest b m d) (all (cell b m d) (tabled b m d)) (partition-as b m d) e
+  alone-no e = go (aloneTest b m d) (cellsTest b m d (mappedCount b m d)) (partition-as b m d) e
     where
       go : (x y : Bool) → partitionTest b m d ≡ x && y → cond x (marks s (own b m d)) none ≡ none
           → W.judge (children b m) (own b m) (partitionTest b m) k s d ≡ none
@@ -54,20 +53,23 @@ module _ (b : ℕ) (m : List ℕ) (k : ℕ) (s : Seen) (d : ℕ) where
       go true false q h = W.judge-bad (children b m) (own b m) (partitionTest b m) k s d q
       go false y q h = W.judge-bad (children b m) (own b m) (partitionTest b m) k s d q
 
-  module _ {r : Bool} (e : r ≡ all (cell b m d) (tabled b m d)) where
+  module _ {n : ℕ} {r : Bool} (q : n ≡ mappedCount b m d) (e : r ≡ cellsTest b m d n) where
+    counted : r ≡ cellsTest b m d (mappedCount b m d)
+    counted = e ∙ ap (cellsTest b m d) q
+
     pub cells-no : not r ≡ true → W.judge (children b m) (own b m) (partitionTest b m) k s d ≡ none
-    cells-no n =
+    cells-no f =
         W.judge-bad (children b m) (own b m) (partitionTest b m) k s d
-        (partition-as b m d ∙ ap (λ (y : Bool). aloneTest b m d && y) (no e n) ∙ and-false (aloneTest b m d))
+        (partition-as b m d ∙ ap (λ (y : Bool). aloneTest b m d && y) (no counted f) ∙ and-false (aloneTest b m d))
 
     pub cells-yes : not r ≡ false → (t : Seen) → cond (aloneTest b m d) (marks s (own b m d)) none ≡ some t
         → W.judge (children b m) (own b m) (partitionTest b m) k s d ≡ W.judges (children b m) (own b m) (partitionTest b m) k t (children b m d)
-    cells-yes n t h = go (aloneTest b m d) (partition-as b m d ∙ ap (λ (y : Bool). aloneTest b m d && y) (yes e n)) h
+    cells-yes f t h = go (aloneTest b m d) (partition-as b m d ∙ ap (λ (y : Bool). aloneTest b m d && y) (yes counted f)) h
       where
         go : (x : Bool) → partitionTest b m d ≡ x && true → cond x (marks s (own b m d)) none ≡ some t
             → W.judge (children b m) (own b m) (partitionTest b m) k s d ≡ W.judges (children b m) (own b m) (partitionTest b m) k t (children b m d)
-        go true q f = W.judge-go (children b m) (own b m) (partitionTest b m) k s d t q f
-        go false q f =
+        go true p o = W.judge-go (children b m) (own b m) (partitionTest b m) k s d t p o
+        go false p o =
             let z : _≡_ {A = ℕ} 0 1 = cc in
             absurd (omega arith)
 

@@ -1,7 +1,6 @@
 -- `judge::cells::shadow1_word` meets its contract. Assumes nothing.
 use Rattle.forms.proofs.Laws.Tests.{unequal, equal}
-use mathlib.Core.Path.{refl, sym}
-use Rattle.judge.proofs.Laws.Lent.{passed-same}
+use mathlib.Core.Path.{refl}
 use Rattle.judge.proofs.Laws.Numbers.{address-fits}
 use borrow.Author.Needs.{needs}
 use Rattle.judge.proofs.cells.shadow1_word.Statement.{statement}
@@ -26,18 +25,11 @@ returns-2 : tie.Need-returns-2
 returns-2 c = rw (unequal refl refl (c .before .before .before .before .if1 .left), equal refl refl (c .before .before .before .if2 .taken))
     (rw (c .before .page-of .ensures, c .before .before .address-of .ensures) at (c .child-forms .ensures))
 
-returns-3 : tie.Need-returns-3
-returns-3 c =
-    let first = c .before .before .if1 in
-    let s = c .before .before .before .before .args in
-    rw (unequal refl refl (first .left), unequal refl refl (c .before .if2 .left))
-    (sym (passed-same (s .b) (s .m .now) (s .d .0) (first .left) (c .if3 .taken) (c .before .before .before .before .pre .1 .1)))
-
 lent-word-requires : tie.Need-lent-word-requires
 lent-word-requires c κs = search needs
 
-returns-4 : tie.Need-returns-4
-returns-4 c = rw (unequal refl refl (c .before .before .before .if1 .left), unequal refl refl (c .before .before .if2 .left)) (c .lent-word .ensures)
+returns-3 : tie.Need-returns-3
+returns-3 c = rw (unequal refl refl (c .before .before .if1 .left), unequal refl refl (c .before .if2 .left)) (c .lent-word .ensures)
 
 pub shadow1-word-spec : {M : Type 1} → statement M
 shadow1-word-spec =
@@ -48,6 +40,5 @@ shadow1-word-spec =
     page-of-requires
     child-forms-requires
     returns-2
-    returns-3
     lent-word-requires
-    returns-4)
+    returns-3)

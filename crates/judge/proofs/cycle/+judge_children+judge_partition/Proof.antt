@@ -642,7 +642,9 @@ judge-partition-same-length-2 t c = search needs
 judge-partition-returns-2 : (t : ℕ) → judge-partition-lts.Need-returns-2 (judge-partition-claims t) (judge-partition-at t) judge-partition.Post
 judge-partition-returns-2 t c =
     let s = c .before .before .before .before .before .before .before .before .before .before .args in
-    cells-no (s .b) (s .m .now) _ _ (s .d .0) (c .before .cells-test .ensures) (c .if2 .taken)
+    let judge-alone = c .before .before .before .before .before .before .judge-alone in
+    let counts = judge-alone .ensures .1 (not-false _ (c .before .before .if1 .left)) in
+    cells-no (s .b) (s .m .now) _ _ (s .d .0) (counts .0) (c .before .cells-test .ensures) (c .if2 .taken)
 
 judge-partition-same-length-3 : (t : ℕ) → judge-partition-lts.Need-same-length-3 (judge-partition-claims t) (judge-partition-at t) judge-partition.Post
 judge-partition-same-length-3 t c = search needs
@@ -655,8 +657,9 @@ judge-partition-returns-3 t c =
     let first = c .before .before .before .before .if1 in
     let s = c .before .before .before .before .before .before .before .before .before .before .before .before .args in
     let marked = passed _ (judge-alone .result .passed) (marksIn (judge-alone .last .1 .1 .0)) (judge-alone .ensures .0) (not-false _ (first .left)) in
-    cells-yes (s .b) (s .m .now) _ _ (s .d .0) (cells-test .ensures) (second .left) (marksIn (judge-alone .last .1 .1 .0)) marked
-    ∙ no-child (s .b) (s .m .now) _ (marksIn (judge-alone .last .1 .1 .0)) (s .d .0) (judge-alone .ensures .1 (not-false _ (first .left))) (c .if3 .taken)
+    let counts = judge-alone .ensures .1 (not-false _ (first .left)) in
+    cells-yes (s .b) (s .m .now) _ _ (s .d .0) (counts .0) (cells-test .ensures) (second .left) (marksIn (judge-alone .last .1 .1 .0)) marked
+    ∙ no-child (s .b) (s .m .now) _ (marksIn (judge-alone .last .1 .1 .0)) (s .d .0) (counts .1) (c .if3 .taken)
 
 judge-partition-judge-children-requires : (t : ℕ) → judge-partition-lts.Need-judge-children-requires (judge-partition-claims t)
     (judge-partition-at t) judge-partition.Post
@@ -673,7 +676,8 @@ judge-partition-returns-4 t c =
     let first = c .before .before .before .before .before .before .before .before .if1 in
     let s = c .before .before .before .before .before .before .before .before .before .before .before .before .before .before .before .before .args in
     let marked = passed _ (judge-alone .result .passed) (marksIn (judge-alone .last .1 .1 .0)) (judge-alone .ensures .0) (not-false _ (first .left)) in
-    cells-yes (s .b) (s .m .now) _ _ (s .d .0) (cells-test .ensures) (second .left) (marksIn (judge-alone .last .1 .1 .0)) marked
+    let counts = judge-alone .ensures .1 (not-false _ (first .left)) in
+    cells-yes (s .b) (s .m .now) _ _ (s .d .0) (counts .0) (cells-test .ensures) (second .left) (marksIn (judge-alone .last .1 .1 .0)) marked
     ∙ c .before .before .judge-children .ensures
 
 pub +judge-children+judge-partition-spec : {M : Type 1} → statement M

@@ -73,9 +73,10 @@ returns-4 c =
     let kernel = passed _ (mark-kernel .result) (marksIn (mark-kernel .last .1 .1 .0)) (mark-kernel .ensures) (not-false _ (second .left)) in
     let hands = passed _ (tally .result .marked) (marksIn (tally .last .1 .1 .0)) (tally .ensures .0) (not-false _ (third .left)) in
     let counts = tally .ensures .1 (not-false _ (third .left)) in (
-      alone-marked (marksIn (tally .last .1 .1 .0)) (tested (s .b) (s .m .now) (s .d .0) (forms-test .ensures) (first .left) counts (c .tables-test .ensures))
+      alone-marked (marksIn (tally .last .1 .1 .0))
+          (tested (s .b) (s .m .now) (s .d .0) (forms-test .ensures) (first .left) (counts .1) (counts .2) (c .tables-test .ensures))
           (own-yes (s .b) (s .m .now) (s .d .0) (marksIn (s .seen .now)) (marksIn (mark-kernel .last .1 .1 .0)) kernel ∙ hands),
-      λ e. counts .2,
+      λ e. (counts .0, counts .2),
     )
 
 pub judge-alone-spec : {M : Type 1} → statement M

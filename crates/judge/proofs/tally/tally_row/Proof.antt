@@ -2,11 +2,13 @@
 use Prim.Native.Nat.{ℕ, _+_, _-_}
 use mathlib.Core.Path.{_≡_, refl, sym, ap, _∙_}
 use mathlib.Core.Bool.{false≢true}
+use mathlib.Core.Logic.{⊎-elim}
 use native.Mathlib.Omega.{arith}
 use lib.ListN.{length, getD}
 use Rattle.memory.proofs.Widths.{words-most}
 use Rattle.judge.proofs.Laws.Blocks.{empty-end, empty-word}
-use Rattle.judge.proofs.Laws.Tally.{Tallied, tally-start, tally-past, tally-next, tally-stop, tally-mapped, tally-shut, tally-due, tally-hand}
+use Rattle.judge.proofs.Laws.Tally.{Tallied, tally-start, tally-past, tally-next, tally-lent}
+use Rattle.judge.proofs.Laws.Tally.{tally-stop, tally-mapped, tally-shut, tally-due, tally-hand}
 use borrow.Author.Needs.{needs}
 use Rattle.judge.proofs.tally.tally_row.Statement.{statement}
 use Rattle.judge.proofs.tally.tally_row.Tie as tie
@@ -69,33 +71,28 @@ same-length c = search needs
 
 returns : tie.Need-returns Inv-loop μ-loop
 returns c =
-    let h = c .before .before .before .before .before .before .before .before .before .before .before .before .before .before .before .before .pre in
-    let p = c .before .before .before .before .before .before .before .before .before .before .before .loop in
-    let test = c .before .before .before .before .before .before .before .before .before .before .loop-test in
-    let second = c .before .before .before .before .before .before .if2 in
-    let read = c .before .before .before .before .before .read in
-    let s = c .before .before .before .before .before .before .before .before .before .before .before .before .before .before .before .before .args in
+    let h = c .before .before .before .before .before .before .before .before .before .before .before .before .before .before .before .before .before .pre in
+    let p = c .before .before .before .before .before .before .before .before .before .before .before .before .loop in
+    let test = c .before .before .before .before .before .before .before .before .before .before .before .loop-test in
+    let second = c .before .before .before .before .before .before .before .if2 in
+    let read = c .before .before .before .before .before .before .read in
+    let s = c .before .before .before .before .before .before .before .before .before .before .before .before .before .before .before .before .before .args in
     let m = c .before .before .before .mark-hand in (
       tally-stop (s .b) (s .m .now) (s .pt .now) (s .s1 .now) (h .1) (p .inv) (m .result) (m .last .1 .0) (test .taken) refl (read .ensures) (second .left) (m .ensures)
-          (c .if3 .taken),
+          (c .if4 .taken),
       λ z. absurd (false≢true z),
     )
-
-add-mapped : tie.Need-add-mapped Inv-loop μ-loop
-add-mapped c =
-    let h = c .before .before .before .before .before .before .before .before .before .before .before .before .before .before .before .before .pre in
-    let s = c .before .before .before .before .before .before .before .before .before .before .before .before .before .before .before .before .args in
-    let p = c .before .before .before .before .before .before .before .before .before .before .before .loop in
-    omega (arith, h .1, words-most (s .b) (h .0 .1), p .inv .inside, p .inv .mapped-most)
 
 shut-bit-requires : tie.Need-shut-bit-requires Inv-loop μ-loop
 shut-bit-requires c κs = search needs
 
 add-shut : tie.Need-add-shut Inv-loop μ-loop
 add-shut c =
-    let h = c .before .before .before .before .before .before .before .before .before .before .before .before .before .before .before .before .before .pre in
-    let s = c .before .before .before .before .before .before .before .before .before .before .before .before .before .before .before .before .before .args in
-    let p = c .before .before .before .before .before .before .before .before .before .before .before .before .loop in
+    let h = c .before .before .before .before .before .before .before .before .before .before .before .before .before .before .before .before
+    .before .before .pre in
+    let s = c .before .before .before .before .before .before .before .before .before .before .before .before .before .before .before .before
+    .before .before .args in
+    let p = c .before .before .before .before .before .before .before .before .before .before .before .before .before .loop in
     omega (arith, h .1, words-most (s .b) (h .0 .1), p .inv .inside, p .inv .shut-most, c .shut-bit .ensures .1)
 
 due-pages-requires : tie.Need-due-pages-requires Inv-loop μ-loop
@@ -103,10 +100,19 @@ due-pages-requires c κs = search needs
 
 add-due : tie.Need-add-due Inv-loop μ-loop
 add-due c =
-    let h = c .before .before .before .before .before .before .before .before .before .before .before .before .before .before .before .before .before .before .pre in
-    let s = c .before .before .before .before .before .before .before .before .before .before .before .before .before .before .before .before .before .before .args in
-    let p = c .before .before .before .before .before .before .before .before .before .before .before .before .before .loop in
+    let h = c .before .before .before .before .before .before .before .before .before .before .before .before .before .before .before .before
+    .before .before .before .pre in
+    let s = c .before .before .before .before .before .before .before .before .before .before .before .before .before .before .before .before
+    .before .before .before .args in
+    let p = c .before .before .before .before .before .before .before .before .before .before .before .before .before .before .loop in
     omega (arith, h .1, words-most (s .b) (h .0 .1), p .inv .inside, p .inv .due-most, c .due-pages .ensures .1)
+
+add-mapped : tie.Need-add-mapped Inv-loop μ-loop
+add-mapped c =
+    let h = c .before .before .before .before .before .before .before .before .before .before .before .before .pre in
+    let s = c .before .before .before .before .before .before .before .before .before .before .before .before .args in
+    let p = c .before .before .before .before .before .before .before .loop in
+    omega (arith, h .1, words-most (s .b) (h .0 .1), p .inv .inside, p .inv .mapped-most)
 
 add-j-3 : tie.Need-add-j-3 Inv-loop μ-loop
 add-j-3 c = search needs
@@ -116,15 +122,19 @@ loop-less-3 c = search needs
 
 loop-again-3 : tie.Need-loop-again-3 Inv-loop μ-loop
 loop-again-3 c =
-    let h = c .before .before .before .before .before .before .before .before .before .before .before .before .before .before .before .before .before .before .pre in
-    let p = c .before .before .before .before .before .before .before .before .before .before .before .before .before .loop in
-    let test = c .before .before .before .before .before .before .before .before .before .before .before .before .loop-test in
-    let second = c .before .before .before .before .before .before .before .before .if2 in
-    let read = c .before .before .before .before .before .before .before .read in
-    let s = c .before .before .before .before .before .before .before .before .before .before .before .before .before .before .before .before .before .before .args in
-    let m = c .before .before .before .before .before .mark-hand in
+    let h = c .before .before .before .before .before .before .before .before .before .before .before .before .pre in
+    let p = c .before .before .before .before .before .before .before .loop in
+    let test = c .before .before .before .before .before .before .loop-test in
+    let second = c .before .before .if2 in
+    let read = c .before .read in
+    let s = c .before .before .before .before .before .before .before .before .before .before .before .before .args in
+    ⊎-elim
+    (λ y. let m = y .2 in
     tally-next (s .b) (s .m .now) (s .pt .now) (s .s1 .now) (h .1) (p .inv) (m .result) (m .last .1 .0) (test .taken) refl (read .ensures) (second .left) (m .ensures)
-    (c .before .shut-bit .ensures) (c .due-pages .ensures) (m .kept .1 .0) (c .before .before .if3 .left)
+    (y .8) (y .9) (y .10) (y .6 .ensures) (y .7 .ensures) (m .kept .1 .0) (y .5 .left))
+    (λ y. tally-lent (s .b) (s .m .now) (s .pt .now) (s .s1 .now) (h .1) (p .inv) (test .taken) refl (read .ensures) (second .left) (y .0 .left) (y .1)
+    (y .2) (y .3))
+    (c .if3 .came)
 
 same-length-2 : tie.Need-same-length-2 Inv-loop μ-loop
 same-length-2 c = search needs
@@ -168,11 +178,11 @@ tally-row-spec =
     mark-hand-requires
     same-length
     returns
-    add-mapped
     shut-bit-requires
     add-shut
     due-pages-requires
     add-due
+    add-mapped
     add-j-3
     loop-less-3
     loop-again-3

@@ -30,7 +30,9 @@ same-length-2 c = search needs
 returns-2 : tie.Need-returns-2
 returns-2 c =
     let s = c .before .before .before .before .before .before .before .before .before .before .args in
-    cells-no (s .b) (s .m .now) _ _ 1 (c .before .cells-test .ensures) (c .if2 .taken)
+    let judge-alone = c .before .before .before .before .before .before .judge-alone in
+    let counts = judge-alone .ensures .1 (not-false _ (c .before .before .if1 .left)) in
+    cells-no (s .b) (s .m .now) _ _ 1 (counts .0) (c .before .cells-test .ensures) (c .if2 .taken)
 
 same-length-3 : tie.Need-same-length-3
 same-length-3 c = search needs
@@ -43,8 +45,9 @@ returns-3 c =
     let first = c .before .before .before .before .if1 in
     let s = c .before .before .before .before .before .before .before .before .before .before .before .before .args in
     let marked = passed _ (judge-alone .result .passed) (marksIn (judge-alone .last .1 .1 .0)) (judge-alone .ensures .0) (not-false _ (first .left)) in
-    cells-yes (s .b) (s .m .now) _ _ 1 (cells-test .ensures) (second .left) (marksIn (judge-alone .last .1 .1 .0)) marked
-    ∙ no-child (s .b) (s .m .now) _ (marksIn (judge-alone .last .1 .1 .0)) 1 (judge-alone .ensures .1 (not-false _ (first .left))) (c .if3 .taken)
+    let counts = judge-alone .ensures .1 (not-false _ (first .left)) in
+    cells-yes (s .b) (s .m .now) _ _ 1 (counts .0) (cells-test .ensures) (second .left) (marksIn (judge-alone .last .1 .1 .0)) marked
+    ∙ no-child (s .b) (s .m .now) _ (marksIn (judge-alone .last .1 .1 .0)) 1 (counts .1) (c .if3 .taken)
 
 judge-children-requires : tie.Need-judge-children-requires
 judge-children-requires c κs = search needs
@@ -60,7 +63,8 @@ returns-4 c =
     let first = c .before .before .before .before .before .before .before .before .if1 in
     let s = c .before .before .before .before .before .before .before .before .before .before .before .before .before .before .before .before .args in
     let marked = passed _ (judge-alone .result .passed) (marksIn (judge-alone .last .1 .1 .0)) (judge-alone .ensures .0) (not-false _ (first .left)) in
-    cells-yes (s .b) (s .m .now) _ _ 1 (cells-test .ensures) (second .left) (marksIn (judge-alone .last .1 .1 .0)) marked
+    let counts = judge-alone .ensures .1 (not-false _ (first .left)) in
+    cells-yes (s .b) (s .m .now) _ _ 1 (counts .0) (cells-test .ensures) (second .left) (marksIn (judge-alone .last .1 .1 .0)) marked
     ∙ c .before .before .judge-children .ensures
 
 pub judge-root-spec : {M : Type 1} → statement M

@@ -1,12 +1,12 @@
--- `judge::partitions::lent_test` meets its contract. Assumes nothing.
+-- `judge::tally::lent_test` meets its contract. Assumes nothing.
 use Rattle.memory.specs.Partition.{parent}
 use Prim.Native.Nat.{ℕ}
 use mathlib.Core.Path.{refl, ap, _∙_}
 use Rattle.forms.proofs.Laws.Tests.{equal, unequal, same-eqb}
 use Rattle.judging.specs.Quick.{lentCount}
 use borrow.Author.Needs.{needs}
-use Rattle.judge.proofs.partitions.lent_test.Statement.{statement}
-use Rattle.judge.proofs.partitions.lent_test.Tie as tie
+use Rattle.judge.proofs.tally.lent_test.Statement.{statement}
+use Rattle.judge.proofs.tally.lent_test.Tie as tie
 
 returns : tie.Need-returns
 returns c = rw (equal refl refl (c .if1 .taken))
