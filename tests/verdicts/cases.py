@@ -1,4 +1,5 @@
-"""Memories to be judged: calls from format, then changed words. For each soundness sentence one memory that breaks just that sentence, and sound ones.
+"""Memories to be judged: calls from format, then changed words. For each soundness sentence one memory that breaks just that sentence, and sound ones;
+besides, lent pages that are mapped twice or not at all, in a child whose shadow 2 words rise and in one where they fall.
 
 Numbers of pages for N = 40: root virtual page v is page 8 + v; the child is page 9 with its three in pages 14 to 16, the grandchild page 17 with its
 three in pages 22 to 24, and root page 17 is lent through both. Memories of 16 large pages have the length of 256 small ones and are formatted so after
@@ -9,6 +10,8 @@ FAMILY = [[1, 256, 512, 768, 1024, 1280], [12, 1536, 1792], [12, 1792, 2048], [6
           [3, 3584, 256, 5376, 7], [3, 3840, 256, 5632, 7], [3, 4096, 256, 5888, 7], [3, 4352, 256, 6144, 3],
           [9, 256], [1, 4096, 4352, 4608, 4864, 5120], [12, 5376, 5632], [12, 5632, 5888], [6, 4096, 8192, 5376], [3, 6144, 4096, 8192, 1], [10]]
 SECOND_CHILD = [[1, 4608, 4864, 5120, 5376, 5632]]
+# two pages are lent to the child so that its shadow 2 words fall
+FALLING = FAMILY[:4] + [[3, 2304, 256, 4352, 7], [3, 2560, 256, 4096, 7]]
 
 
 LARGE_CHILD = [[0, 1], [1, 4096, 8192, 12288, 16384, 20480]]
@@ -53,6 +56,7 @@ CASES = [
     ('fresh, 73 pages', 73, [], [], []),
     ('fresh, 256 pages', 256, [], [], []),
     ('a grandchild, a page lent on', 40, FAMILY, [], []),
+    ('pages lent in falling order', 40, FALLING, [], []),
     ('eight deep', 256, deep(), [], []),
     ('broad', 256, broad(26), [], []),
     ('a word of a page in hand', 40, FAMILY, [at(38, 5, 4294967295)], []),
@@ -62,6 +66,10 @@ CASES = [
     ("4: a child's parent another page", 40, FAMILY, [at(9, 11, 512)], [4]),
     ('5: current no partition', 40, FAMILY, [at(0, 4, 2560)], [5]),
     ('6: a right added', 40, FAMILY, [at(22, 32, 6431)], [6]),
+    ('6: a page mapped twice in a child', 40, FAMILY, [at(14, 25, 6415), at(15, 25, 4096), at(16, 25, 4352)], [6]),
+    ('6: a page mapped twice, words that fall', 40, FALLING, [at(14, 18, 4383), at(16, 18, 2304)], [6, 8]),
+    ('6: a lent page not mapped in the child', 40, FAMILY, [at(22, 32, 0), at(24, 32, 0)], [6, 8]),
+    ('6: a lent page not mapped, words that fall', 40, FALLING, [at(14, 16, 0), at(16, 16, 0)], [6, 8]),
     ("7: a child's descriptor accessible", 40, FAMILY, [at(6, 1, 2335)], [7]),
     ('8: one page in two kernel uses', 40, FAMILY + SECOND_CHILD, [at(26, 6, 5120), at(26, 7, 7168), at(6, 21, 7455)], [8]),
     ('9: a shadow 2 word with no mapping', 40, FAMILY, [at(16, 3, 256)], [9]),

@@ -115,15 +115,16 @@ pub fn deep_few_tables(edition: Edition, pages: usize) -> Scenario {
     chains("deep, few tables", built, 1, threes)
 }
 
-/// As many children of the root as there are pages for, each with so many threes and lent pages; these are lent in turn.
-fn children(name: &'static str, mut built: Builder, threes: usize, lent: usize) -> Scenario {
+/// As many children of the root as there are pages for, each with so many threes and with a lent page at each of these places, in this order; the pages
+/// are lent in turn.
+fn children(name: &'static str, mut built: Builder, threes: usize, places: &[usize]) -> Scenario {
     let mut all = Vec::new();
-    while built.left() >= 5 + 3 * threes + (all.len() + 1) * lent {
+    while built.left() >= 5 + 3 * threes + (all.len() + 1) * places.len() {
         let child = built.create();
         built.prepare(child, threes);
         all.push(child);
     }
-    for k in 0..lent {
+    for &k in places {
         all.iter().for_each(|&child| built.lend(child, k));
         all.last().into_iter().for_each(|&child| built.lend_again(child, k));
     }
@@ -132,17 +133,22 @@ fn children(name: &'static str, mut built: Builder, threes: usize, lent: usize) 
 
 /// One three and one lent page each.
 pub fn broad(edition: Edition, pages: usize) -> Scenario {
-    children("broad", Builder::new(edition, pages), 1, 1)
+    children("broad", Builder::new(edition, pages), 1, &[0])
 }
 
 /// One three each, and twenty lent pages.
 pub fn broad_few_tables(edition: Edition, pages: usize) -> Scenario {
-    children("broad, few tables", Builder::new(edition, pages), 1, 20)
+    children("broad, few tables", Builder::new(edition, pages), 1, &Vec::from_iter(0..20))
+}
+
+/// One three each, and two lent pages that are mapped in falling order: the judge then counts what is lent to each child.
+pub fn broad_falling(edition: Edition, pages: usize) -> Scenario {
+    children("broad, falling", Builder::new(edition, pages), 1, &[1, 0])
 }
 
 /// Children without tables.
 pub fn bare(edition: Edition, pages: usize) -> Scenario {
-    children("bare", Builder::new(edition, pages), 0, 0)
+    children("bare", Builder::new(edition, pages), 0, &[])
 }
 
 /// A chain down to this level, one three each, on which every call is made: the parent of the last partition is the caller, and has lent it a page. Where

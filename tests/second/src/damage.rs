@@ -28,7 +28,7 @@ pub fn damage(mem: &[u32], random: &mut Random) -> Changes {
 /// Changes of any number of words: also those that one word or two seldom make, so that each sentence is broken alone.
 pub fn wide_damage(mem: &[u32], random: &mut Random) -> Changes {
     let nodes = tree(mem);
-    let wider = match random.below(13) {
+    let wider = match random.below(15) {
         0 => second_use(mem, &nodes, random),
         1 => other_order(mem, &nodes, random),
         2 => open_descriptor(mem, &nodes, random),
@@ -36,6 +36,8 @@ pub fn wide_damage(mem: &[u32], random: &mut Random) -> Changes {
         4 => Some(vec![(CURRENT, any_page(mem, random))]),
         5 => Some(vec![(EDITION, other_edition(mem, random))]),
         6 => Some((0..3 + random.below(3)).flat_map(|_| damage(mem, random)).collect()),
+        7 => second_mapping(mem, &nodes, random),
+        8 => lost_mapping(mem, &nodes, random),
         _ => None,
     };
     wider.unwrap_or_else(|| damage(mem, random))
@@ -107,6 +109,35 @@ fn second_use(mem: &[u32], nodes: &[Node], random: &mut Random) -> Option<Change
         changes.extend(opened(mem, nodes, place, dropped));
     }
     Some(changes)
+}
+
+/// The indices of the words of v in a child's page table, shadow 1 table and shadow 2 table.
+fn cell(mem: &[u32], partition: Partition, v: VPage) -> [usize; 3] {
+    let edition = Edition::of(mem);
+    let roots = [partition.directory, partition.shadow1, partition.shadow2];
+    roots.map(|root| start(mem, named_page(mem, root, v.directory_index(edition))) + v.table_index(edition))
+}
+
+/// A mapping of a child.
+fn any_mapping(nodes: &[Node], random: &mut Random) -> Option<(Partition, VPage)> {
+    let mapped: Vec<_> = nodes[1..].iter().filter(|node| !node.mappings.is_empty()).collect();
+    let node = random.pick(&mapped)?;
+    Some((node.partition, random.pick(&node.mappings)?.0))
+}
+
+/// A child maps a page that is lent to it a second time, at another place of the same table and in hand there.
+fn second_mapping(mem: &[u32], nodes: &[Node], random: &mut Random) -> Option<Changes> {
+    let (partition, v) = any_mapping(nodes, random)?;
+    let edition = Edition::of(mem);
+    let other = VPage(v.0 - v.table_index(edition) as u32 + random.below(edition.page_words()) as u32);
+    let ([w, _, y], [to_w, to_x, to_y]) = (cell(mem, partition, v), cell(mem, partition, other));
+    Some(vec![(to_w, mem[w]), (to_x, 0), (to_y, mem[y])])
+}
+
+/// A child no longer maps a page that is lent to it.
+fn lost_mapping(mem: &[u32], nodes: &[Node], random: &mut Random) -> Option<Changes> {
+    let (partition, v) = any_mapping(nodes, random)?;
+    Some(cell(mem, partition, v).map(|index| (index, 0)).to_vec())
 }
 
 /// A word's index, mostly in a kernel page and mostly not 0.

@@ -12,7 +12,7 @@ const MOST: f64 = 2.0;
 const FAVOUR: u32 = 4;
 
 /// The same shape at each size: kernel pages grow with the memory.
-const RECIPES: [Recipe; 3] = [deep, broad, bare];
+const RECIPES: [Recipe; 4] = [deep, broad, broad_falling, bare];
 /// Few kernel pages and many mappings, more of them the more pages there are.
 const OTHERS: [Recipe; 3] = [one_child, deep_few_tables, broad_few_tables];
 
