@@ -14,7 +14,7 @@ fn tables() {
         }
     }
     assert_eq!(report.stack.len(), 3);
-    assert_eq!(report.bars.len(), 13);
+    assert_eq!(report.bars.len(), 15);
     for table in report.calls.iter().chain(&report.stack).chain(&report.short) {
         assert!(table.rows.iter().all(|row| row.len() == table.head.len()), "{}", table.title);
         assert!(table.text().lines().count() > table.rows.len() && table.markdown().contains("|---|"));
