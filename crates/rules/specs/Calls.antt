@@ -2,7 +2,6 @@
 use mathlib.Core.List.{List, [], _∷_}
 use mathlib.Core.Bool.{cond}
 use Prim.Native.Nat.{ℕ, _+_, _*_}
-use lib.Dec.{eqb}
 use lib.ListN.{getD}
 use Rattle.memory.specs.Words.{word}
 use Rattle.memory.specs.Partition.{current, list, lent, above}
@@ -26,8 +25,8 @@ module _ (b : ℕ) where
   result m (prepare c t p) = 0
   -- "answers the first"
   result m (collect c t) = word b m (list b m (child b m c)) (1 + 6 * threePlace b m (child b m c) t)
-  -- "the child's descriptor address, or 0 if not lent": shadow 1 word 1 is a child's descriptor and not a lent page
-  result m (mappedInChild p) = cond (eqb (lent b m (current b m) p) 1) 0 (lent b m (current b m) p)
+  -- "the child's descriptor address, or 0 if not lent": the shadow 1 word; a child's descriptor, where it is 1, is refused
+  result m (mappedInChild p) = lent b m (current b m) p
   result m (enter c) = 0
   result m leave = 0
   -- "answers the word"

@@ -87,6 +87,11 @@ module _ (b : ℕ) where
   abbrev pub inaccessible : List ℕ → ℕ → Bool
   inaccessible m v = eqb (accessible (mapping b m (current b m) v)) 0
 
+  -- 16, of mappedInChild: "a page that serves as a child's kernel page", "mapped, inaccessible, not lent" (document 02, L2). Shadow 1 word 1 is a
+  -- child's descriptor and not a lent page.
+  abbrev pub servesChild : List ℕ → ℕ → Bool
+  servesChild m v = inaccessible m v && leb (lent b m (current b m) v) 1
+
   -- ---- the chain
 
   -- "word 0 of a page holds the next page's address"

@@ -9,6 +9,7 @@ pub mod Calls
 pub mod Editions
 pub mod Permitted
 pub mod SameChain
+pub mod PageTold
 pub mod Bytes
 pub mod Record
 pub mod Replay

@@ -10,7 +10,7 @@ use Rattle.rules.specs.Refusal.{DAMAGED, SIZE, ADDRESS, TWICE, CHILD, RI
 use Rattle.rules.specs.Row.{Check, _when_, first}
 use Rattle.rules.specs.Call.{Call, formatAll, createPartition, deletePartition, addVAddr, removeVAddr, pageCount, prepare, collect, mappedInChild, enter, leave, load, store}
 use Rattle.rules.specs.Conditions.{twice, damaged, badAddress, badPage, noChild, child, lacks, notInHand, noThree, unmapped, mapped, listFull}
-use Rattle.rules.specs.Conditions.{anyMapping, tooDeep, atRoot, inaccessible, chain, unfit}
+use Rattle.rules.specs.Conditions.{anyMapping, tooDeep, atRoot, inaccessible, servesChild, chain, unfit}
 
 module _ (b : ℕ) where
   unfoldable pub refusals : List ℕ → Call → List Check
@@ -42,8 +42,9 @@ module _ (b : ℕ) where
   refusals m (collect c t) =
       DAMAGED when damaged b m ∷ ADDRESS when any (badPage b) (c ∷ t ∷ []) ∷ CHILD when noChild b m c ∷ TABLE when noThree b m (child b m c) t
       ∷ FULL-TABLE when anyMapping b m (child b m c) t ∷ []
-  -- 1 3 15
-  refusals m (mappedInChild p) = DAMAGED when damaged b m ∷ ADDRESS when badPage b p ∷ UNMAPPED when unmapped b m (current b m) p ∷ []
+  -- 1 3 15, and by document 02, L2, "16, after 15"
+  refusals m (mappedInChild p) =
+      DAMAGED when damaged b m ∷ ADDRESS when badPage b p ∷ UNMAPPED when unmapped b m (current b m) p ∷ KERNEL when servesChild b m p ∷ []
   -- 1 3 5
   refusals m (enter c) = DAMAGED when damaged b m ∷ ADDRESS when badPage b c ∷ CHILD when noChild b m c ∷ []
   -- 1 14
