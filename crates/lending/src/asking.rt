@@ -1,15 +1,27 @@
-// mappedInChild: "the child's descriptor address, or 0 if not lent".
+// mappedInChild: "the child's descriptor address, or 0 if not lent". A page that serves as a child's kernel page is refused (document 02, L2).
 use answers::Answer;
 ghost use mathlib.Core.Path.{_≡_};
 ghost use Prim.Native.Nat.{_≤_};
 ghost use Rattle.soundness.specs.Test.{soundTest};
 ghost use Rattle.rules.specs.Call.{mappedInChild};
+ghost use Rattle.rules.specs.Conditions.{servesChild};
 ghost use Rattle.rules.specs.Refusals.{refusal};
-ghost use Rattle.rules.specs.Calls.{result, answer, after};
+ghost use Rattle.rules.specs.Calls.{answer, after};
 ghost use Rattle.pages.specs.Width.{Width};
 ghost use Rattle.answers.specs.Said.{said};
 
-// 1 3 15
+// 16: "mapped, inaccessible, not lent", of a mapping of the caller.
+fn serves_child(b: u32, m: &[u32], p: u32) -> bool
+    requires { ⌜ Width b ⌝ }
+    ensures { λ r. ⌜ r ≡ servesChild b (now (m .entry)) p ⌝ }
+{
+    if !moves::inaccessible(b, m, p) {
+        return false;
+    }
+    pages::lent(b, m, pages::current(b, m), p) <= 1
+}
+
+// 1 3 15 16
 fn mapped_refusal(b: u32, m: &[u32], good: bool, p: u32) -> u32
     requires { ⌜ Width b ⌝ }
     requires judged { ⌜ good ≡ soundTest b (now m) ⌝ }
@@ -22,19 +34,10 @@ fn mapped_refusal(b: u32, m: &[u32], good: bool, p: u32) -> u32
     if moves::unmapped(b, m, pages::current(b, m), p) {
         return 15;
     }
-    0
-}
-
-// The child that the page at p is lent to, or 0. Shadow 1 word 1 is a child's descriptor and not a lent page.
-fn lent_to(b: u32, m: &[u32], p: u32) -> u32
-    requires { ⌜ Width b ⌝ }
-    ensures { λ r. ⌜ r ≡ result b (now (m .entry)) (mappedInChild p) ⌝ }
-{
-    let x = pages::lent(b, m, pages::current(b, m), p);
-    if x == 1 {
-        return 0;
+    if serves_child(b, m, p) {
+        return 16;
     }
-    x
+    0
 }
 
 // 8. The page at p of the caller.
@@ -47,5 +50,5 @@ pub fn mapped_in_child(b: u32, m: &[u32], good: bool, p: u32) -> Answer
     if n != 0 {
         return answers::reply(n, 0);
     }
-    answers::reply(0, lent_to(b, m, p))
+    answers::reply(0, pages::lent(b, m, pages::current(b, m), p))
 }

@@ -4,6 +4,7 @@ use borrow.Author.Needs.{needs}
 use Rattle.rules.specs.Call.{mappedInChild}
 use Rattle.rules.specs.Effects.{effect}
 use Rattle.moves.proofs.Whole.{refused, done}
+use Rattle.lending.proofs.Laws.{mapped-is}
 use Rattle.lending.proofs.asking.mapped_in_child.Statement.{statement}
 use Rattle.lending.proofs.asking.mapped_in_child.Tie as tie
 
@@ -20,8 +21,11 @@ returns c =
     let call = mappedInChild (s .p) in
     refused (s .b) (s .m .now) call (r .result) (r .ensures .0) 0 (c .reply .ensures) (c .before .if1 .taken)
 
-lent-to-requires : tie.Need-lent-to-requires
-lent-to-requires c κs = search needs
+current-requires : tie.Need-current-requires
+current-requires c κs = search needs
+
+lent-requires : tie.Need-lent-requires
+lent-requires c κs = search needs
 
 reply-requires-2 : tie.Need-reply-requires-2
 reply-requires-2 c κs = search needs
@@ -29,11 +33,11 @@ reply-requires-2 c κs = search needs
 returns-2 : tie.Need-returns-2
 unfolding effect
 returns-2 c =
-    let s = c .before .before .before .before .before .args in
-    let r = c .before .before .before .mapped-refusal in
+    let s = c .before .before .before .before .before .before .args in
+    let r = c .before .before .before .before .mapped-refusal in
     let call = mappedInChild (s .p) in
-    done (s .b) (s .m .now) call (r .result) (r .ensures .0) (c .before .lent-to .result) (c .reply2 .ensures) (c .before .lent-to .ensures) refl
-    (c .before .before .if1 .left)
+    done (s .b) (s .m .now) call (r .result) (r .ensures .0) (c .before .lent .result) (c .reply2 .ensures)
+    (mapped-is (s .b) (s .m .now) (s .p) (c .before .before .current .ensures) (c .before .lent .ensures)) refl (c .before .before .before .if1 .left)
 
 pub mapped-in-child-spec : {M : Type 1} → statement M
 mapped-in-child-spec =
@@ -42,6 +46,7 @@ mapped-in-child-spec =
     mapped-refusal-requires
     reply-requires
     returns
-    lent-to-requires
+    current-requires
+    lent-requires
     reply-requires-2
     returns-2)

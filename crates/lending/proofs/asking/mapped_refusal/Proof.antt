@@ -1,12 +1,11 @@
 -- `lending::asking::mapped_refusal` meets its contract. The row goes on behind the checks of the address. Assumes nothing.
-use mathlib.Core.Path.{sym, ap, _∙_}
-use Prim.Native.Nat.{ℕ}
+use mathlib.Core.Path.{sym, _∙_}
 use native.Mathlib.Omega.{arith}
 use borrow.Author.Needs.{needs}
-use Rattle.rules.proofs.Rows.{on, at, none, first-is, stops, goes-on}
-use Rattle.rules.specs.Conditions.{unmapped}
+use Rattle.rules.proofs.Rows.{on, at, none, stops}
 use Rattle.rules.specs.Refusals.{refusals}
 use Rattle.moves.proofs.OnePage.{one-page}
+use Rattle.lending.proofs.Laws.{mapped-row, own-unmapped}
 use Rattle.lending.proofs.asking.mapped_refusal.Statement.{statement}
 use Rattle.lending.proofs.asking.mapped_refusal.Tie as tie
 
@@ -30,28 +29,33 @@ unmapped-requires : tie.Need-unmapped-requires
 unmapped-requires c κs = search needs
 
 returns-2 : tie.Need-returns-2
-unfolding refusals
 returns-2 c =
-    let c₁ = c .before .before .before in
-    let s = c₁ .before .before .before .before .args in
-    let k = c .before .before .current .ensures in (
-      one-page (s .b) (s .m .now) (s .p) _
-          (sym (first-is (at (sym (c .before .unmapped .ensures ∙ ap (λ (d : ℕ). unmapped (s .b) (s .m .now) d (s .p)) k) ∙ c .if2 .taken)))
-          ∙ goes-on _ _ _ (c₁ .before .page-refusal .ensures .0) (c₁ .if1 .left)),
-      omega arith,
-    )
+    let page = c .before .before .before in
+    let s = page .before .before .before .before .args in
+    let row = mapped-row (s .b) (s .m .now) (s .p) (page .before .page-refusal .ensures .0) (page .if1 .left) in
+    let known = own-unmapped (s .b) (s .m .now) (s .p) (c .before .before .current .ensures) (c .before .unmapped .ensures) in
+    (row (at (known (c .if2 .taken))), omega arith)
+
+serves-child-requires : tie.Need-serves-child-requires
+serves-child-requires c κs = search needs
 
 returns-3 : tie.Need-returns-3
-unfolding refusals
 returns-3 c =
-    let c₁ = c .before .before .before in
-    let s = c₁ .before .before .before .before .args in
-    let k = c .before .before .current .ensures in (
-      one-page (s .b) (s .m .now) (s .p) _
-          (sym (first-is (on (sym (c .before .unmapped .ensures ∙ ap (λ (d : ℕ). unmapped (s .b) (s .m .now) d (s .p)) k) ∙ c .if2 .left) none))
-          ∙ goes-on _ _ _ (c₁ .before .page-refusal .ensures .0) (c₁ .if1 .left)),
-      omega arith,
-    )
+    let mapped = c .before .before in
+    let page = mapped .before .before .before in
+    let s = page .before .before .before .before .args in
+    let row = mapped-row (s .b) (s .m .now) (s .p) (page .before .page-refusal .ensures .0) (page .if1 .left) in
+    let known = own-unmapped (s .b) (s .m .now) (s .p) (mapped .before .before .current .ensures) (mapped .before .unmapped .ensures) in
+    (row (on (known (mapped .if2 .left)) (at (sym (c .before .serves-child .ensures) ∙ c .if3 .taken))), omega arith)
+
+returns-4 : tie.Need-returns-4
+returns-4 c =
+    let mapped = c .before .before in
+    let page = mapped .before .before .before in
+    let s = page .before .before .before .before .args in
+    let row = mapped-row (s .b) (s .m .now) (s .p) (page .before .page-refusal .ensures .0) (page .if1 .left) in
+    let known = own-unmapped (s .b) (s .m .now) (s .p) (mapped .before .before .current .ensures) (mapped .before .unmapped .ensures) in
+    (row (on (known (mapped .if2 .left)) (on (sym (c .before .serves-child .ensures) ∙ c .if3 .left) none)), omega arith)
 
 pub mapped-refusal-spec : {M : Type 1} → statement M
 mapped-refusal-spec =
@@ -63,4 +67,6 @@ mapped-refusal-spec =
     current-requires
     unmapped-requires
     returns-2
-    returns-3)
+    serves-child-requires
+    returns-3
+    returns-4)
