@@ -9,7 +9,7 @@ use lib.ListN.{getD}
 use Rattle.memory.specs.Geometry.{pageOf, tableIndex}
 use Rattle.memory.specs.Words.{index}
 use Rattle.memory.specs.Edition.{width}
-use Rattle.memory.specs.Partition.{current, shadow1, tableAt, tableWord, lent}
+use Rattle.memory.specs.Partition.{tableAt, tableWord}
 use Rattle.rules.specs.Call.{Call, formatAll, createPartition, deletePartition, addVAddr, removeVAddr, pageCount}
 use Rattle.rules.specs.Call.{prepare, collect, mappedInChild, enter, leave, load, store}
 use Rattle.rules.specs.Conditions.{child, noThree}
@@ -43,7 +43,7 @@ module _ (b k : ℕ) (m : List ℕ) (room : 3 < k) (small : (i : ℕ) → getD m
   result-below (pageCount c t) = cond-below (noThree b m (child b m c) t) room none
   result-below (prepare c t p) = none
   result-below (collect c t) = small _
-  result-below (mappedInChild p) = cond-below (eqb (lent b m (current b m) p) 1) none (table-word-below (shadow1 b m (current b m)) (pageOf b p))
+  result-below (mappedInChild p) = table-word-below _ _
   result-below (enter c) = none
   result-below leave = none
   result-below (load a) = small _
