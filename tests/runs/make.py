@@ -2,7 +2,7 @@
 
   python3 tests/runs/make.py [--check]     # --check: compare with the stored files instead of writing them
 
-Prints how often each call gives each answer there; fails where one of document 01's answers is left out."""
+Prints how often each call gives each answer there; fails where one of the rules' answers is left out."""
 import os, subprocess, sys
 
 import sequences
@@ -23,7 +23,7 @@ def made(seed, count, pages, edition):
 
 def memories():
     s = sequences
-    out = s.barred() + s.unformatted() + s.deep() + s.eleven() + s.grandchildren() + s.together() + s.choices() + s.changes() + s.large_pages()
+    out = s.barred() + s.unformatted() + s.deep() + s.eleven() + s.grandchildren() + s.asked() + s.together() + s.choices() + s.changes() + s.large_pages()
     for runs in s.GUIDED:
         words, = {[64, 1024][edition] * pages for _, _, pages, edition in runs}
         out.append((words, [part for run in runs for part in s.guided(made(*run), run[3])]))

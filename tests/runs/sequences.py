@@ -4,7 +4,7 @@ A call is its number and its arguments; 0 is format, whose argument is the editi
 
 PAGE, LARGE = 256, 4096  # bytes of a page, by edition
 BOTH = 16384             # words of 256 small pages, and of 16 large ones
-LOFT = 64 * PAGE         # where pages are lent to a child: its table at directory index 1
+LOFT = 64 * PAGE         # where pages are lent to a child: its table at directory index 1, with small pages
 
 
 def twelve(page):
@@ -26,11 +26,11 @@ def alone(calls):
     return [[call] for call in calls]
 
 
-def down(base, pages):
-    """From pages in hand in a row: five make a child, three a three for it, the others are lent to it at LOFT; then it is entered."""
-    at = [base + PAGE * k for k in range(pages)]
-    return [[1] + at[:5], [12, at[5], at[6]], [12, at[6], at[7]], [6, base, LOFT, at[5]]] + \
-           [[3, page, base, LOFT + PAGE * k, 7] for k, page in enumerate(at[8:])] + [[9, base]]
+def down(base, pages, size=PAGE):
+    """From pages in hand in a row: five make a child, three a three for it, the others are lent to it at directory index 1; then it is entered."""
+    at, loft = [base + size * k for k in range(pages)], size // 4 * size
+    return [[1] + at[:5], [12, at[5], at[6]], [12, at[6], at[7]], [6, base, loft, at[5]]] + \
+           [[3, page, base, loft + size * k, 7] for k, page in enumerate(at[8:])] + [[9, base]]
 
 
 def barred():
@@ -76,6 +76,16 @@ def grandchildren():
     calls += [[12, LOFT, 9], [10], [8, LOFT + 8 * PAGE], [4, LOFT, LOFT], [3, LOFT + 8 * PAGE, LOFT, LOFT, 1], [10], [4, PAGE, LOFT + 8 * PAGE],
               [8, PAGE * 9], [12, PAGE * 9, 1], [11, PAGE * 17], [11, PAGE * 29], [2, PAGE], [11, PAGE * 9], [11, PAGE * 17], [11, PAGE * 24], [11, PAGE * 29]]
     return [(40 * 64, alone(calls))]
+
+
+def asked():
+    """mappedInChild of every page, and of one past the last: of the caller's child the descriptor, directory, shadows, list and three tables, pages lent to
+    it, and pages in hand. With small pages the root's child has lent on pages to a child of its own, which took some of them for a third; each but the third
+    asks, and after the first is deleted the root again. With large pages there is one child."""
+    ask = lambda base, pages, size=PAGE: [[8, base + size * k] for k in range(pages + 1)]
+    small = [[0, 0]] + down(PAGE, 23) + down(LOFT, 14) + [[1] + [LOFT + PAGE * k for k in range(5)]] + ask(LOFT, 6) + [[10]] + ask(LOFT, 15) + [[10]]
+    large = [[0, 1]] + down(LARGE, 9, LARGE) + [[10]]
+    return [(33 * 64, alone(small + ask(PAGE, 24) + [[2, PAGE]] + ask(PAGE, 24))), (20 * 1024, alone(large + ask(LARGE, 11, LARGE)))]
 
 
 def together():
