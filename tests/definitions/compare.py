@@ -4,7 +4,8 @@
 
 T and F at every page count. Guided random calls at several sizes of both editions, and with changes from one to the other: answer and a hash of every word
 after each call. Changed words of a memory in use: the verdict on soundness. The slips of slips.txt and every refusal that the memory at their start can give,
-in both editions; the last virtual page of large.txt; and scripts for replay, good and bad. Prints what was compared; exits with 1 at the first difference."""
+in both editions; the pages that asked.txt asks for, in both; the last virtual page of large.txt; and scripts for replay, good and bad. Prints what was
+compared; exits with 1 at the first difference."""
 import array, itertools, os, random, subprocess, sys, threading
 
 from antt import Program, ap, check_shortcuts
@@ -177,8 +178,8 @@ def listed(name, edition, adapted=lambda line: line):
     return '%s %d' % (lines[0], edition), [adapted(l).split(' = ') for l in lines[1:]]
 
 
-def slips(edition):
-    return listed('slips.txt', edition, lambda line: scaled_line(edition, line))
+def in_edition(name, edition):
+    return listed(name, edition, lambda line: scaled_line(edition, line))
 
 
 def compare_listed(definitions, what, first, calls):
@@ -197,7 +198,7 @@ def compare_listed(definitions, what, first, calls):
 LENT = ['3 4608 256 6400 1', '3 4864 256 6656 2', '3 5120 256 6912 7', '3 5376 256 7168 7', '3 5632 256 7424 7', '3 5888 256 7680 7']
 PASSING = {1: [[6144, 6400, 6656, 6912, 7168], [6912, 7168, 7424, 7680, 6400]], 2: [[256], [4096]], 3: [[7424, 256, 8448, 7], [7424, 4096, 8448, 1]],
            4: [[256, 7680], [4096, 8192]], 5: [[256, 8192], [4096, 8192]], 6: [[256, 16384, 7168], [4096, 16384, 6912]], 7: [[256, 4096], [4096, 8192]],
-           8: [[4608], [4096]], 9: [[256], [4096]], 11: [[7168], [6912]], 12: [[7168, 7424], [6912, 7168]]}
+           8: [[4608], [6400]], 9: [[256], [4096]], 11: [[7168], [6912]], 12: [[7168, 7424], [6912, 7168]]}
 PAGES = [0, 300, 1048576, 1044480, 4294963200, 256, 512, 2304, 4352, 4096, 5376, 6144, 6400, 6656, 7168, 7936, 8192]
 CHILDREN, TARGETS = [256, 4096, 512, 0, 1048576, 4294963200], [4096, 6144, 8192, 8448, 16384, 4294963200, 257, 0]
 RIGHTS, STORED = [0, 1, 4, 7, 8, 4294967295], [0, 7168, 7424]
@@ -208,8 +209,8 @@ UNDONE = {1: lambda given, again: [2, given[0]], 3: lambda given, again: [4, giv
           6: lambda given, again: [7, given[0], given[1]], 9: lambda given, again: [10]}
 AGAIN = {256: [5888, 256, 7680, 7], 4096: [6144, 4096, 8192, 1]}
 # What each call has to be refused with; 1 and 2 are given for memories and lengths that are not sound, 10 and 13 need ten threes and eight levels.
-REFUSED = {1: [3, 4, 7, 6], 2: [3, 5], 3: [3, 6, 5, 7, 8, 9], 4: [3, 5, 8, 15, 7], 5: [3, 5], 6: [3, 5, 9, 11, 7, 6], 7: [3, 5, 8, 12], 8: [3, 15], 9: [3, 5],
-           10: [14], 11: [3, 15, 16, 6], 12: [3, 15, 16, 6]}
+REFUSED = {1: [3, 4, 7, 6], 2: [3, 5], 3: [3, 6, 5, 7, 8, 9], 4: [3, 5, 8, 15, 7], 5: [3, 5], 6: [3, 5, 9, 11, 7, 6], 7: [3, 5, 8, 12], 8: [3, 15, 16],
+           9: [3, 5], 10: [14], 11: [3, 15, 16, 6], 12: [3, 15, 16, 6]}
 
 
 def varied(number, passing, places):
@@ -225,7 +226,7 @@ def varied(number, passing, places):
 def compare_refusals(definitions, edition, pairs, most):
     """In the root and in its child: every call with one argument changed, and so many with two; those that pass, which take longest, up to so many of each.
     collect and deletePartition come last: what they do is not undone."""
-    first, calls = slips(edition)
+    first, calls = in_edition('slips.txt', edition)
     calls = [c for c, _ in calls]
     lines = [first] + calls[:calls.index('10') + 1] + [scaled_line(edition, line) for line in LENT]
     out, memory = run_file(definitions, lines)
@@ -312,7 +313,9 @@ def main():
     d = Definitions()
     print('sizes: %d page counts agree' % compare_sizes(d))
     for edition in 0, 1:
-        print('edition %d: slips: %d calls agree' % (edition, compare_listed(d, 'slips of edition %d' % edition, *slips(edition))))
+        for name in 'slips.txt', 'asked.txt':
+            what = 'edition %d: %s' % (edition, name)
+            print('%s: %d calls agree' % (what, compare_listed(d, what, *in_edition(name, edition))))
         pairs, most = ((60, 1000), (20, 1))[edition] if quick else ((300, 1000), (100, 20))[edition]
         print('edition %d: refusals: %d calls agree' % (edition, compare_refusals(d, edition, pairs, most)))
     print('edition 1: the last virtual page: %d calls agree' % compare_listed(d, 'large.txt', *listed('large.txt', 1)))

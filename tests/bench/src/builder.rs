@@ -122,11 +122,12 @@ impl Builder {
         self.call(3, &[page, child, target, ALL_RIGHTS]);
     }
 
-    /// Takes the child's page k back and lends it again.
+    /// Takes the child's page k back, lends it again and asks for it.
     pub fn lend_again(&mut self, child: u32, k: usize) {
         let target = self.target(k);
         let page = self.call(4, &[child, target]);
         self.call(3, &[page, child, target, ALL_RIGHTS]);
+        self.call(8, &[page]);
     }
 
     pub fn enter(&mut self, child: u32, pages: usize) {
@@ -156,7 +157,6 @@ impl Builder {
     pub fn finish(&mut self, child: u32) {
         self.access();
         self.call(5, &[child, self.target(0)]);
-        self.call(8, &[child]);
         self.call(9, &[child]);
         self.call(10, &[]);
         self.call(2, &[child]);
@@ -175,7 +175,7 @@ impl Builder {
             (5, &[nowhere, nowhere]),
             (6, &[child, nowhere, nowhere]),
             (7, &[child, nowhere]),
-            (8, &[nowhere]),
+            (8, &[child]),
             (9, &[nowhere]),
             (10, &[]),
             (11, &[child]),

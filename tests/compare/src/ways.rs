@@ -4,7 +4,7 @@ use second::calls::{follow_chain, Answer};
 use second::geometry::*;
 use second::memory::{word, Mapping, Partition, IS_CHILD};
 use second::refusal::*;
-use second::sound::sound;
+use second::sound::{is_lent, sound};
 use second::tree::tree;
 use std::fmt;
 
@@ -24,7 +24,7 @@ type Way = (&'static str, fn(&Look) -> bool);
 /// With large pages no address is too large.
 const TOO_LARGE: &str = "any call no 3: 2^20 or above";
 
-const WAYS: [Way; 30] = [
+const WAYS: [Way; 41] = [
     ("format ok: over a sound memory of the other edition", |l| {
         l.ok(0) && l.line[1] != l.edition.number && sound(l.mem).is_ok()
     }),
@@ -36,7 +36,9 @@ const WAYS: [Way; 30] = [
     ("any call no 3: not a multiple", |l| l.address(|address| address % l.multiple() != 0)),
     ("createPartition ok: the child is 8 below the root", |l| l.ok(1) && l.depth() == MOST_DEPTH - 1),
     ("createPartition ok: the last virtual page", |l| l.ok(1) && l.line[1..].contains(&l.last())),
-    ("deletePartition ok: the child has children", |l| l.ok(2) && l.child().is_some_and(|c| has_children(l.mem, &c))),
+    ("deletePartition ok: the child has children", |l| {
+        l.ok(2) && l.child().is_some_and(|c| children(l.mem, &c).next().is_some())
+    }),
     ("addVAddr no 6: a number above 7", |l| l.no(3, RIGHTS) && l.line[4] > ALL_RIGHTS),
     ("addVAddr no 6: a right not held", |l| l.no(3, RIGHTS) && l.line[4] <= ALL_RIGHTS),
     ("addVAddr ok: at the last virtual page", |l| l.ok(3) && l.line[3] == l.last()),
@@ -58,8 +60,19 @@ const WAYS: [Way; 30] = [
     ("prepare no 11: no address for the third page", |l| l.stops(CHAIN, 2) && !l.again()),
     ("prepare no 11: a page again", |l| l.no(6, CHAIN) && !l.stops(CHAIN, 3) && l.again()),
     ("prepare no 11: chain too long", |l| l.stops(CHAIN, 3)),
-    ("mappedInChild ok: 0 for a child's kernel page", |l| l.answer == Ok(0) && l.closed()),
-    ("mappedInChild ok: a lent page that is inaccessible", |l| l.answer != Ok(0) && l.closed()),
+    ("mappedInChild ok: 0 for a page in hand", |l| l.ok(8) && l.answer == Ok(0)),
+    ("mappedInChild ok: a lent page in the child's hand", |l| l.lent() == Some([true, false])),
+    ("mappedInChild ok: a lent page that the child took", |l| l.lent() == Some([false, false])),
+    ("mappedInChild ok: a page lent on to a grandchild", |l| l.lent() == Some([true, true])),
+    ("mappedInChild ok: a page lent on to a grandchild and taken there", |l| l.lent() == Some([false, true])),
+    ("mappedInChild no 16: a child's descriptor", |l| l.serves(0)),
+    ("mappedInChild no 16: a child's directory", |l| l.serves(1)),
+    ("mappedInChild no 16: a child's shadow 1", |l| l.serves(2)),
+    ("mappedInChild no 16: a child's shadow 2", |l| l.serves(3)),
+    ("mappedInChild no 16: a child's list", |l| l.serves(4)),
+    ("mappedInChild no 16: a child's page table", |l| l.serves(5)),
+    ("mappedInChild no 16: a child's shadow 1 table", |l| l.serves(6)),
+    ("mappedInChild no 16: a child's shadow 2 table", |l| l.serves(7)),
     ("load or store ok: on the last virtual page", |l| (l.ok(11) || l.ok(12)) && l.line[1] >= l.last()),
 ];
 
@@ -105,7 +118,11 @@ impl Look<'_> {
 
     /// The child that the first argument names.
     fn child(&self) -> Option<Partition> {
-        let mapping = self.caller.mapping(self.mem, VPage::of(self.edition, self.line[1]))?;
+        self.child_at(self.line[1])
+    }
+
+    fn child_at(&self, address: u32) -> Option<Partition> {
+        let mapping = self.caller.mapping(self.mem, VPage::of(self.edition, address))?;
         Some(Partition::at(self.mem, mapping.page))
     }
 
@@ -142,22 +159,39 @@ impl Look<'_> {
         self.chain().iter().any(|(v, _)| v.address(self.edition) == self.last())
     }
 
-    /// Mapped in child answers for an inaccessible page.
-    fn closed(&self) -> bool {
-        let mapping = self.ok(8).then(|| self.caller.mapping(self.mem, VPage::of(self.edition, self.line[1])));
-        mapping.flatten().is_some_and(|m| !m.accessible)
+    /// Mapped in child answers a child: whether that has the page accessible, and whether it has lent it on.
+    fn lent(&self) -> Option<[bool; 2]> {
+        let at = self.answer.ok().filter(|&at| self.line[0] == 8 && at != 0)?;
+        let child = self.child_at(at)?;
+        let (v, mapping) = child.mappings(self.mem).find(|&(v, _)| child.shadow2(self.mem, v) == self.line[1])?;
+        Some([mapping.accessible, is_lent(child.shadow1(self.mem, v))])
+    }
+
+    /// Mapped in child is refused for a kernel page of a child, of this kind: its five pages in order, then the three tables.
+    fn serves(&self, kind: usize) -> bool {
+        let is_it = |(place, (v, _)): (usize, (VPage, PPage))| {
+            v.address(self.edition) == self.line[1] && kind == if place < 5 { place } else { 5 + (place - 5) % 3 }
+        };
+        let of = |child: Partition| child.kernel_pairs(self.mem).into_iter().enumerate().any(is_it);
+        self.no(8, KERNEL) && children(self.mem, &self.caller).any(of)
     }
 }
 
-fn has_children(mem: &[u32], partition: &Partition) -> bool {
-    partition.mappings(mem).any(|(v, _)| partition.shadow1(mem, v) == IS_CHILD)
+fn children<'a>(mem: &'a [u32], partition: &'a Partition) -> impl Iterator<Item = Partition> + 'a {
+    let at = partition.mappings(mem).filter(|&(v, _)| partition.shadow1(mem, v) == IS_CHILD);
+    at.map(|(_, mapping)| Partition::at(mem, mapping.page))
 }
 
-#[derive(Default)]
 pub struct Ways {
     /// By the memory's edition; format's by the one that it is to choose.
     counts: [[u64; WAYS.len()]; EDITIONS.len()],
     collected: Option<[u32; 2]>,
+}
+
+impl Default for Ways {
+    fn default() -> Ways {
+        Ways { counts: [[0; WAYS.len()]; EDITIONS.len()], collected: None }
+    }
 }
 
 impl Ways {

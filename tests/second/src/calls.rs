@@ -3,7 +3,7 @@
 use crate::geometry::*;
 use crate::memory::*;
 use crate::refusal::*;
-use crate::sound::sound;
+use crate::sound::{is_lent, sound};
 
 /// The answer, or the number of the first refusal.
 pub type Answer = Result<u32, u32>;
@@ -299,11 +299,11 @@ pub fn collect(mem: &mut [u32], child: u32, target: u32) -> Answer {
 pub fn mapped_in_child(mem: &[u32], page: u32) -> Answer {
     let caller = caller_of(mem)?;
     let [page] = page_addresses(mem, [page])?;
-    require(caller.mapping(mem, page).is_some(), UNMAPPED)?;
-    match caller.shadow1(mem, page) {
-        IS_CHILD => Ok(0),
-        lent_to => Ok(lent_to),
-    }
+    let mapping = caller.mapping(mem, page).ok_or(UNMAPPED)?;
+    let lent_to = caller.shadow1(mem, page);
+    // Document 02, L2: mapped, inaccessible, not lent.
+    require(mapping.accessible || is_lent(lent_to), KERNEL)?;
+    Ok(lent_to)
 }
 
 pub fn enter(mem: &mut [u32], child: u32) -> Answer {

@@ -1,4 +1,4 @@
-//! How often each call gave each answer, and which answers document 01 gives it.
+//! How often each call gave each answer, and which answers the rules give it.
 
 use crate::calls::Answer;
 use std::fmt;
@@ -8,7 +8,7 @@ pub const WRITER: usize = 13;
 pub const READER: usize = 14;
 const MOST_REFUSAL: usize = 18;
 
-/// Each row's name and refusals, in document 01's order. All of them occur, and no other is ever given.
+/// Each row's name and refusals, in the order of their checks. All of them occur, and no other is ever given.
 pub const ROWS: [(&str, &[u32]); 15] = [
     ("format", &[2]),
     ("createPartition", &[1, 3, 4, 7, 6, 13]),
@@ -18,7 +18,7 @@ pub const ROWS: [(&str, &[u32]); 15] = [
     ("pageCount", &[1, 3, 5, 10]),
     ("prepare", &[1, 3, 5, 9, 10, 11, 7, 6]),
     ("collect", &[1, 3, 5, 8, 12]),
-    ("mappedInChild", &[1, 3, 15]),
+    ("mappedInChild", &[1, 3, 15, 16]),
     ("enter", &[1, 3, 5]),
     ("leave", &[1, 14]),
     ("load", &[1, 3, 15, 16, 6]),
@@ -31,7 +31,7 @@ pub const ROWS: [(&str, &[u32]); 15] = [
 #[derive(Clone, Default)]
 pub struct Cover([[u64; MOST_REFUSAL + 1]; ROWS.len()]);
 
-/// Whether document 01 gives this answer in this row.
+/// Whether the rules give this answer in this row.
 fn possible(row: usize, answer: usize) -> bool {
     answer == 0 || ROWS[row].1.contains(&(answer as u32))
 }
@@ -74,7 +74,7 @@ fn column(answer: usize) -> String {
     }
 }
 
-/// A dot stands where document 01 has no such answer.
+/// A dot stands where the rules have no such answer.
 impl fmt::Display for Cover {
     fn fmt(&self, f: &mut fmt::Formatter) -> fmt::Result {
         write!(f, "{:15}", "")?;

@@ -69,7 +69,7 @@ impl Judged<'_> {
 }
 
 /// Neither free nor a child's descriptor.
-fn is_lent(shadow1: u32) -> bool {
+pub fn is_lent(shadow1: u32) -> bool {
     shadow1 != 0 && shadow1 != IS_CHILD
 }
 

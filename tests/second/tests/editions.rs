@@ -128,7 +128,7 @@ fn the_last_page_mapped_and_in_a_chain() {
     assert_eq!(furnish(&mut mem, LAST - at(1), at(1), [LAST - at(5), LAST - at(6), LAST - at(7)]), Ok(0));
     pass(&mut mem, &[&[2, LAST - at(1)], &[1, LAST - at(1), LAST - at(2), LAST - at(3), LAST - at(4), LAST - at(5)]]);
     assert_eq!(furnish(&mut mem, LAST - at(1), at(1), [LAST - at(6), LAST, LAST - at(7)]), Ok(0));
-    assert_eq!(say(&mut mem, &[8, LAST]), Ok(0));
+    assert_eq!(say(&mut mem, &[8, LAST]), Err(16));
     assert_eq!(say(&mut mem, &[11, LAST]), Err(16));
     assert_eq!(say(&mut mem, &[7, LAST - at(1), at(1)]), Ok(LAST - at(6)));
     assert_eq!(say(&mut mem, &[11, LAST - at(6)]), Ok(LAST));

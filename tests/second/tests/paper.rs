@@ -164,11 +164,39 @@ fn chain_refusals() {
 fn slip_shadow_word_one_taken_for_lent() {
     let mut mem = formatted(20);
     pass(&mut mem, &[&[1, 256, 512, 768, 1024, 1280]]);
-    for page in 1..=6 {
-        assert_eq!(say(&mut mem, &[8, 256 * page]), Ok(0));
+    for page in 1..=5 {
+        assert_eq!(say(&mut mem, &[8, 256 * page]), Err(16));
     }
+    assert_eq!(say(&mut mem, &[8, 256 * 6]), Ok(0));
     assert_eq!(say(&mut mem, &[3, 256, 256, 4096, 0]), Err(7));
     assert_eq!(say(&mut mem, &[2, 512]), Err(5));
+}
+
+/// Document 02, L2. The root has a child, that a child, and that one more: each has taken eight pages for its child, the last five.
+#[test]
+fn mapped_in_child_tells_how_a_page_is_had() {
+    let mut mem = formatted(33);
+    down(&mut mem, 256, 23);
+    down(&mut mem, LOFT, 14);
+    pass(&mut mem, &[&[1, LOFT, LOFT + 256, LOFT + 512, LOFT + 768, LOFT + 1024]]);
+    // Pages from an address on: how many are asked for, and the answer that each gets.
+    let asked = |mem: &mut [u32], base: u32, expected: &[(u32, Answer)]| {
+        let answers = expected.iter().flat_map(|&(pages, answer)| (0..pages).map(move |_| answer));
+        for (page, answer) in (base..).step_by(256).zip(answers) {
+            assert_eq!(say(mem, &[8, page]), answer, "{page}");
+        }
+    };
+    asked(&mut mem, LOFT, &[(5, Err(16)), (1, Ok(0)), (1, Err(15))]);
+    pass(&mut mem, &[&[10]]);
+    // Lent to the child: five that it took, one in its hand.
+    asked(&mut mem, LOFT, &[(8, Err(16)), (5, Ok(LOFT)), (1, Ok(LOFT)), (1, Ok(0)), (1, Err(15))]);
+    assert_eq!(say(&mut mem, &[11, LOFT + 256 * 12]), Err(16));
+    pass(&mut mem, &[&[10]]);
+    // Lent to the child: eight that it took, six that it lent on, of which its child took five, one in its hand.
+    asked(&mut mem, 256, &[(8, Err(16)), (8, Ok(256)), (6, Ok(256)), (1, Ok(256)), (1, Ok(0)), (1, Err(15))]);
+    assert_eq!([16, 21, 22, 23].map(|page| say(&mut mem, &[11, 256 * page])), [Err(16), Err(16), Ok(0), Ok(0)]);
+    pass(&mut mem, &[&[2, 256]]);
+    asked(&mut mem, 256, &[(24, Ok(0)), (1, Err(15))]);
 }
 
 #[test]

@@ -37,9 +37,9 @@ pub fn remove_vaddr<const W: usize>(m: &mut Memory<W>, child: u32, target: u32) 
 pub fn mapped_in_child<const W: usize>(m: &Memory<W>, page: u32) -> Answer {
     let [page] = pages_at([page])?;
     let caller = m.caller();
-    require(caller.mapping(m, page) != 0, UNMAPPED)?;
-    match caller.shadow1(m, page) {
-        IS_CHILD => Ok(0),
-        lent_to => Ok(lent_to),
-    }
+    let word = caller.mapping(m, page);
+    require(word != 0, UNMAPPED)?;
+    let lent_to = caller.shadow1(m, page);
+    require(word & ACCESSIBLE != 0 || lent_to > IS_CHILD, KERNEL)?;
+    Ok(lent_to)
 }
