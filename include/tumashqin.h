@@ -47,7 +47,7 @@ enum tumashqin_refusal {
     TUMASHQIN_DEPTH = 13,      /* the caller is 8 below the root */
     TUMASHQIN_ROOT = 14,       /* the root leaves */
     TUMASHQIN_UNMAPPED = 15,   /* no mapping there */
-    TUMASHQIN_KERNEL = 16,     /* mapped, not accessible */
+    TUMASHQIN_KERNEL = 16,     /* mapped, not accessible (mapped_in_child: and not lent) */
     TUMASHQIN_SHORT = 17,      /* record or revision buffer too short */
     TUMASHQIN_MAGIC = 18       /* the record's magic is wrong, or its begin is above its end */
 };
@@ -104,8 +104,8 @@ uint64_t tumashqin_prepare(uint32_t *words, size_t length, uint32_t child, uint3
  * Refusals: DAMAGED, ADDRESS, CHILD, TABLE, FULL_TABLE. */
 uint64_t tumashqin_collect(uint32_t *words, size_t length, uint32_t child, uint32_t target);
 
-/* 8. Its word is the descriptor address of the child that the page is lent to, or 0 if it is not lent.
- * Refusals: DAMAGED, ADDRESS, UNMAPPED. */
+/* 8. Its word is the descriptor address of the child that the page is lent to, or 0 if it is in the caller's hand.
+ * Refusals: DAMAGED, ADDRESS, UNMAPPED, KERNEL (a child's kernel page; a lent page is answered even where it is inaccessible). */
 uint64_t tumashqin_mapped_in_child(const uint32_t *words, size_t length, uint32_t page);
 
 /* 9. The child is current. Refusals: DAMAGED, ADDRESS, CHILD. */

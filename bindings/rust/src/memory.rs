@@ -113,9 +113,9 @@ impl<'a> Memory<'a> {
         answered(unsafe { raw::tumashqin_collect(words, length, child, target) })
     }
 
-    /// Call 8: changes nothing; answers the descriptor address of the child that page is lent to, or 0 if not lent.
+    /// Call 8: changes nothing; answers the descriptor address of the child that page is lent to, or 0 if it is in the caller's hand.
     ///
-    /// Refusals: Damaged, Address, Unmapped.
+    /// Refusals: Damaged, Address, Unmapped, Kernel (a child's kernel page; a lent page is answered even where it is inaccessible).
     pub fn mapped_in_child(&self, page: u32) -> Result<u32, Refusal> {
         answered(unsafe { raw::tumashqin_mapped_in_child(self.words.as_ptr(), self.words.len(), page) })
     }

@@ -35,7 +35,7 @@ pub enum Refusal {
     Root,
     /// No mapping there.
     Unmapped,
-    /// Mapped, not accessible.
+    /// Mapped, not accessible (mapped_in_child: and not lent).
     Kernel,
     /// Record or revision buffer too short.
     Short,
