@@ -1,12 +1,16 @@
 -- The parts of a page table word. Assumes nothing.
-use mathlib.Core.Path.{_≡_, ap, _∙_, subst}
-use Prim.Native.Nat.{ℕ, _+_, _-_, _*_, _/_, _%_, _^_, _≤_, _<_}
+use mathlib.Core.Path.{_≡_, refl, sym, ap, ap₂, _∙_, subst}
+use mathlib.Core.Bool.{true, _&&_, false≢true}
+use Prim.Native.Nat.{ℕ, zero, suc, _+_, _-_, _*_, _/_, _%_, _^_, _≤_, _<_}
 use native.Mathlib.Nat.{mul-comm, mul-left-comm}
 use native.Mathlib.Omega.{arith}
 use lib.Arith.{digits-div}
+use lib.Bits.{bitAnd}
+use lib.Dec.{leb, eqb}
+use borrow.Author.Tests.{lt-leb}
 use lib.Pow.{pow-pos, pow-add}
 use Rattle.memory.specs.Geometry.{pageBytes, pageOf}
-use Rattle.memory.specs.Entry.{entry, accessible, rights}
+use Rattle.memory.specs.Entry.{entry, accessible, rights, writeRight, executeRight, leastBoth, holds, writeAndExecute}
 
 module _ (b p a r : ℕ) (wide : 3 ≤ b) (ha : a < 2) (hr : r < 8) where
   eight : (c : ℕ) → 2 ^ (c + 3) ≡ 8 * 2 ^ c
@@ -36,3 +40,22 @@ module _ (b p a r : ℕ) (wide : 3 ≤ b) (ha : a < 2) (hr : r < 8) where
 
   pub entry-rights : rights (entry b p a r) ≡ r
   entry-rights = ap (λ (x : ℕ). x / 4 % 8) flags ∙ omega arith
+
+-- ---- of the rights 0 to 7 just 6 and 7 hold write and execute
+
+both-from-6 : (r : ℕ) → r < 8 → (eqb (bitAnd writeRight r) writeRight && eqb (bitAnd executeRight r) executeRight) ≡ leb leastBoth r
+both-from-6 zero h = refl
+both-from-6 (suc zero) h = refl
+both-from-6 (suc (suc zero)) h = refl
+both-from-6 (suc (suc (suc zero))) h = refl
+both-from-6 (suc (suc (suc (suc zero)))) h = refl
+both-from-6 (suc (suc (suc (suc (suc zero))))) h = refl
+both-from-6 (suc (suc (suc (suc (suc (suc zero)))))) h = refl
+both-from-6 (suc (suc (suc (suc (suc (suc (suc zero))))))) h = refl
+both-from-6 (suc (suc (suc (suc (suc (suc (suc (suc r)))))))) h = absurd (omega arith)
+
+pub both-rights : (w : ℕ) → writeAndExecute w ≡ leb leastBoth (rights w)
+both-rights w = both-from-6 (rights w) (omega arith)
+
+pub below-both : (w : ℕ) → rights w < leastBoth → ¬ ((holds writeRight w ≡ true) × (holds executeRight w ≡ true))
+below-both w h (x, y) = false≢true (sym (both-rights w ∙ lt-leb leastBoth (rights w) h) ∙ ap₂ _&&_ x y)

@@ -1,5 +1,5 @@
 -- A page table word and its parts. Assumes nothing.
-use mathlib.Core.Bool.{Bool, not}
+use mathlib.Core.Bool.{Bool, not, _&&_}
 use Prim.Native.Nat.{ℕ, _+_, _*_, _/_, _%_}
 use lib.Dec.{eqb}
 use lib.Bits.{bitAnd}
@@ -25,9 +25,20 @@ readRight = 1
 abbrev pub writeRight : ℕ
 writeRight = 2
 
+abbrev pub executeRight : ℕ
+executeRight = 4
+
 abbrev pub allRights : ℕ
 allRights = 7
+
+-- "rights 6 and 7" (document 02, L7): write and execute together, without read and with it
+abbrev pub leastBoth : ℕ
+leastBoth = 6
 
 -- all of the rights r are among those of the word w
 abbrev pub holds : ℕ → ℕ → Bool
 holds r w = eqb (bitAnd r (rights w)) r
+
+-- "both writable and executable" (document 02, L7)
+abbrev pub writeAndExecute : ℕ → Bool
+writeAndExecute w = holds writeRight w && holds executeRight w

@@ -9,7 +9,7 @@ use lib.ListN.{length}
 use Rattle.walk.specs.Finite.{One}
 use Rattle.memory.specs.Geometry.{editionOf, pageWords, address, pageOf, threesFor, flatPages, leastPages, mostPages, mostThrees, mostDepth}
 use Rattle.memory.specs.Words.{word}
-use Rattle.memory.specs.Entry.{entry, accessible, rights, allRights, holds}
+use Rattle.memory.specs.Entry.{entry, accessible, rights, writeRight, executeRight, allRights, holds}
 use Rattle.memory.specs.Format.{formatWord}
 use Rattle.memory.specs.Partition.{pages, current, directory, shadow1, shadow2, list, threes, mapping, lent, above}
 use Rattle.memory.specs.Tree.{Virtual, Physical, Has, Child, InTree}
@@ -151,6 +151,11 @@ module _ (b : ℕ) (m : List ℕ) where
     pub some : (p : ℕ) → 0 < p → p < pages b m → Use b m p
     pub one : (p : ℕ) → 0 < p → p < pages b m → (u w : Use b m p) → (u .part ≡ w .part) × (u .way ≡ w .way)
 
+  -- ---- 12, by document 02, L7. "no add-on hold a page both writable and executable"
+
+  abbrev pub WriteAndExecute : ℕ → ℕ → Type 0
+  WriteAndExecute d v = (holds writeRight (mapping b m d v) ≡ true) × (holds executeRight (mapping b m d v) ≡ true)
+
   -- ---- all of them
 
   pub record Sound : Type 0 where
@@ -167,3 +172,6 @@ module _ (b : ℕ) (m : List ℕ) where
     pub uses : Uses
     -- 9. "An absent mapping has 0 in all three table words."
     pub absent : (k d : ℕ) → InTree b m k d → (v : ℕ) → Has b m d v → mapping b m d v ≡ 0 → (lent b m d v ≡ 0) × (above b m d v ≡ 0)
+    -- 12. "the rule for every mapping, accessible or not, in every partition but the root": the one whose descriptor is page 1. An absent mapping has no
+    -- rights.
+    pub neverBoth : (k d : ℕ) → InTree b m k d → d ≢ 1 → (v : ℕ) → Has b m d v → ¬ WriteAndExecute d v
