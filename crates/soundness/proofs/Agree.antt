@@ -9,7 +9,7 @@ use lib.Dec.{eqb, ltb}
 use Rattle.memory.specs.Geometry.{pageWords}
 use Rattle.memory.specs.Words.{word}
 use Rattle.memory.specs.Partition.{directory, list, threes, tableFor, mapping, lent, above}
-use Rattle.memory.specs.Entry.{accessible}
+use Rattle.memory.specs.Entry.{accessible, writeAndExecute}
 use Rattle.walk.specs.Reflect.{Tells, via, eq?, le?, lt?, both, either, isn't, unless, given, choose}
 use Rattle.walk.specs.Finite.{from, below, from-once, One, all, all?, all-in?, any?, once?}
 use Rattle.memory.specs.Tree.{Virtual, Physical, Has, Child}
@@ -235,6 +235,18 @@ module _ (b : ℕ) (m : List ℕ) where
   unfolding T.absentTest T.absentAt
   absent? d = all? (C.tabled b m d) (tabled-is b m d) (λ v. given eq? (both eq? eq?))
 
+  -- ---- 12
+
+  abbrev pub NeverBoth : ℕ → Type 0
+  NeverBoth d = d ≢ 1 → (v : ℕ) → Has b m d v → ¬ S.WriteAndExecute b m d v
+
+  pub neverBothAt? : (d v : ℕ) → Tells (not (writeAndExecute (mapping b m d v))) (¬ S.WriteAndExecute b m d v)
+  neverBothAt? d v = isn't (both itself itself)
+
+  neverBoth? : (d : ℕ) → Tells (T.neverBothTest b m d) (NeverBoth d)
+  unfolding T.neverBothTest
+  neverBoth? d = unless eq? (all? (C.tabled b m d) (tabled-is b m d) (neverBothAt? d))
+
   -- ---- a partition
 
   pub record Partition (d : ℕ) : Type 0 where
@@ -244,13 +256,16 @@ module _ (b : ℕ) (m : List ℕ) where
     pub lending : S.Lending b m d
     pub kernel : S.Kernel b m d
     pub absent : Absent d
+    pub neverBoth : NeverBoth d
 
   pub ok? : (d : ℕ) → Tells (T.ok b m d) (Partition d)
   unfolding T.ok
-  ok? d = (
-    (λ e.
-        let (((((f, t), c), l), k), a) = both (both (both (both (both (forms? d) (threes? d)) (children? d)) itself) (kernel? d)) (absent? d) .0 e in
-        record { forms = f; threes = t; children = c; lending = lending? d f .0 l; kernel = k; absent = a }),
-    (λ p. both (both (both (both (both (forms? d) (threes? d)) (children? d)) itself) (kernel? d)) (absent? d) .1
-        (((((p .forms, p .threes), p .children), lending? d (p .forms) .1 (p .lending)), p .kernel), p .absent)),
-  )
+  ok? d =
+      let tests = both (both (both (both (both (both (forms? d) (threes? d)) (children? d)) itself) (kernel? d)) (absent? d)) (neverBoth? d) in (
+        (λ e.
+            let ((((((f, t), c), l), k), a), n) = tests .0 e in
+            record { forms = f; threes = t; children = c; lending = lending? d f .0 l; kernel = k; absent = a; neverBoth = n }),
+        (λ p.
+            let l = lending? d (p .forms) .1 (p .lending) in
+            tests .1 ((((((p .forms, p .threes), p .children), l), p .kernel), p .absent), p .neverBoth)),
+      )

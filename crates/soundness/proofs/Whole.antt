@@ -72,6 +72,7 @@ module _ (b : ℕ) (m : List ℕ) where
     kernel = λ k d t. part k d t .kernel;
     uses = good-uses g;
     absent = λ k d t. part k d t .absent;
+    neverBoth = λ k d t. part k d t .neverBoth;
   }
     where
       part : (k d : ℕ) → InTree b m k d → Partition b m d
@@ -162,7 +163,17 @@ module _ (b : ℕ) (m : List ℕ) where
 
       pub sound-good : Good
       sound-good = record {
-        fine = λ k d t. let v = to-tree b m t in ok? b m d .1 (record { forms = s .forms k d v; threes = s .threes k d v; children = s .children k d v; lending = s .lending k d v; kernel = s .kernel k d v; absent = s .absent k d v });
+        fine = λ k d t.
+            let v = to-tree b m t in
+            ok? b m d .1 (record {
+              forms = s .forms k d v;
+              threes = s .threes k d v;
+              children = s .children k d v;
+              lending = s .lending k d v;
+              kernel = s .kernel k d v;
+              absent = s .absent k d v;
+              neverBoth = s .neverBoth k d v;
+            });
         deep = λ k d t. s .depth k d (to-tree b m t);
         one-parent = parents .0;
         no-parent = parents .1;

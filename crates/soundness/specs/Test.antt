@@ -11,7 +11,7 @@ use Rattle.walk.specs.Marks.{Seen}
 use Rattle.walk.specs.Walk as W
 use Rattle.memory.specs.Geometry.{editionOf, pageWords, addressEnd, address, pageOf, threesFor, flatPages, leastPages, mostPages, mostThrees, mostDepth}
 use Rattle.memory.specs.Words.{word}
-use Rattle.memory.specs.Entry.{entry, accessible, rights, allRights, holds}
+use Rattle.memory.specs.Entry.{entry, accessible, rights, allRights, holds, writeAndExecute}
 use Rattle.memory.specs.Format.{formatWord}
 use Rattle.memory.specs.Partition.{pages, current, directory, shadow1, shadow2, list, parent, threes, tableFor, mapping, lent, above}
 use Rattle.memory.specs.Uses.{fivePages}
@@ -159,10 +159,15 @@ module _ (b : ℕ) (m : List ℕ) where
   unfoldable pub absentTest : ℕ → Bool
   absentTest d = all (absentAt d) (tabled b m d)
 
+  -- ---- 12
+
+  unfoldable pub neverBothTest : ℕ → Bool
+  neverBothTest d = eqb d 1 || all (λ v. not (writeAndExecute (mapping b m d v))) (tabled b m d)
+
   -- ---- the walk
 
   unfoldable pub ok : ℕ → Bool
-  ok d = formsTest d && threesTest d && childrenTest d && lendingTest d && kernelTest d && absentTest d
+  ok d = formsTest d && threesTest d && childrenTest d && lendingTest d && kernelTest d && absentTest d && neverBothTest d
 
   -- the pages of d's list
   unfoldable pub listedPages : ℕ → List ℕ
