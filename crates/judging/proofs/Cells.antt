@@ -16,6 +16,7 @@ use Rattle.memory.specs.Counts as C
 use Rattle.memory.specs.Sound as S
 use Rattle.soundness.proofs.Places.{tabled-is}
 use Rattle.soundness.proofs.Agree.{virtual?, descriptor?, directory?, list?, threes?, childAt?, child-is, childTest?, fromParent?, Shut, kernelShut?}
+use Rattle.soundness.proofs.Agree.{neverBothAt?}
 use Rattle.judging.specs.Quick as Q
 
 always : {t : Bool} → Tells t (t ≡ true)
@@ -35,7 +36,7 @@ module _ (b : ℕ) (m : List ℕ) where
     pub from : Virtual b (above b m d v)
     pub child : lent b m d v ≡ 1 → ChildCell d v (C.childOf b m d v)
     pub named : lent b m d v ≢ 0 → lent b m d v ≢ 1 → Child b m d (lent b m d v) (C.childOf b m d (lent b m d v))
-    pub down : d ≢ 1 → S.FromParent b m (parent b m d) (word b m d 0) d v
+    pub down : d ≢ 1 → (¬ S.WriteAndExecute b m d v) × S.FromParent b m (parent b m d) (word b m d 0) d v
 
   pub record Cell (d v : ℕ) : Type 0 where
     pub absent : mapping b m d v ≡ 0 → (lent b m d v ≡ 0) × (above b m d v ≡ 0)
@@ -66,10 +67,11 @@ module _ (b : ℕ) (m : List ℕ) where
       (λ k. ((k .has .virtual, k .has .table), (k .present, k .mark)))
 
   cell? : (d v : ℕ) → Tells (Q.cell b m d v) (Cell d v)
-  unfolding Q.cell Q.entryTest Q.shadow1Cell
+  unfolding Q.cell Q.entryTest Q.shadow1Cell Q.belowRoot
   cell? d v =
       via (choose eq? (both eq? eq?)
-      (both (both (both (both eq? lt?) (virtual? b)) (choose eq? always (choose eq? (childCell? d v) (lentCell? d v)))) (unless eq? (fromParent? b m (parent b m d) (word b m d 0) d v))))
+      (both (both (both (both eq? lt?) (virtual? b)) (choose eq? always (choose eq? (childCell? d v) (lentCell? d v))))
+      (unless eq? (both (neverBothAt? b m d v) (fromParent? b m (parent b m d) (word b m d 0) d v)))))
       (λ (a, f). record { absent = a; mapped = λ n. let (((p, u), (z, s)), g) = f n in record { page = p; from = u; child = λ e. s (λ q. one e q) .0 e; named = λ x y. s x .1 y; down = g } })
       (λ h. (h .absent, λ n. let k = h .mapped n in (((k .page, k .from), ((λ e. refl), λ x. (k .child, k .named x))), k .down)))
     where

@@ -10,11 +10,13 @@ use Rattle.walk.specs.Lists.{count}
 use Rattle.walk.specs.Tree as Tr
 use Rattle.walk.specs.Walk as W
 use Rattle.memory.specs.Geometry.{pageWords, address, pageOf, mostDepth}
+use Rattle.memory.specs.Entry.{rights}
 use Rattle.memory.specs.Partition.{pages, mapping, lent}
 use Rattle.memory.specs.Tree.{Virtual, Has, Child, InTree, child}
 use Rattle.memory.specs.Counts as C
 use Rattle.memory.specs.Sound as S
 use Rattle.memory.proofs.Geometry.{page-address}
+use Rattle.memory.proofs.Entry.{below-both}
 use Rattle.soundness.specs.Test as T
 use Rattle.soundness.proofs.Agree.{child-page, Partition, ok?}
 use Rattle.soundness.proofs.Trees.{tree-to, to-tree, to-kids}
@@ -70,7 +72,13 @@ module _ (b : ℕ) (m : List ℕ) where
 
     down : {k d v c : ℕ} → InTree b m k d → Child b m d v c → (u : ℕ) → Has b m c u → mapping b m c u ≢ 0 → S.FromParent b m d v c u
     down {k} {d} {v} {c} t a u i n =
-        placed b m (child-cell t a .right) (λ x y. S.FromParent b m x y c u) .0 (judged (child t a) .cells u i .mapped n .down (child-below t a))
+        placed b m (child-cell t a .right) (λ x y. S.FromParent b m x y c u) .0 (judged (child t a) .cells u i .mapped n .down (child-below t a) .1)
+
+    never-both : {k d : ℕ} → InTree b m k d → d ≢ 1 → (v : ℕ) → Has b m d v → ¬ S.WriteAndExecute b m d v
+    never-both {k} {d} t n v i = elim (ℕ-discrete (mapping b m d v) 0) [
+      | yes z ↦ below-both (mapping b m d v) (omega (arith, ap rights z))
+      | no f ↦ judged t .cells v i .mapped f .down n .0
+    ]
 
     counts : (k d v c : ℕ) → InTree b m k d → Child b m d v c → Counts b m d v c
     counts k d v c t a n =
@@ -101,6 +109,7 @@ module _ (b : ℕ) (m : List ℕ) where
       lending = record { down = λ v c a. down t a; back = count-back b m local big counts t };
       kernel = record { shut = λ v c a. child-cell t a .shut; others = count-others b m local t (judged t .shut) };
       absent = λ v i. judged t .cells v i .absent;
+      neverBoth = never-both t;
     }
 
     pub quick-good : 61 ≤ pageWords b → Good b m

@@ -62,7 +62,7 @@ module _ (b : ℕ) (m : List ℕ) (s : S.Sound b m) (big : 61 ≤ pageWords b) w
       from = s .forms k d t .tables v h .shadow2Word;
       child = λ e. child-cell t (child-is b m d v h (n, e));
       named = λ x y. let (c, a) = named t v h (n, omega arith) in subst (Child b m d (lent b m d v)) (sym (child-page b m a)) a;
-      down = λ o. from-parent t o v h n;
+      down = λ o. (s .neverBoth k d t o v h, from-parent t o v h n);
     };
   }
 

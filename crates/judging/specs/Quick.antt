@@ -12,7 +12,7 @@ use Rattle.walk.specs.Finite.{from, all, keep, image}
 use Rattle.walk.specs.Walk as W
 use Rattle.memory.specs.Geometry.{pageWords, pageOf, mostThrees, mostDepth}
 use Rattle.memory.specs.Words.{word}
-use Rattle.memory.specs.Entry.{entry, accessible, rights}
+use Rattle.memory.specs.Entry.{entry, accessible, rights, writeAndExecute}
 use Rattle.memory.specs.Partition.{pages, current, parent, threes, tableFor, mapping, lent, above}
 use Rattle.memory.specs.Counts.{tabled, childAt, childOf, children}
 use Rattle.soundness.specs.Test.{virtual, headerTest, descriptorTest, directoryTest, listTest, rootTest, threesTest, childTest, fromParent, kernelShut, own, judged, under}
@@ -46,12 +46,16 @@ module _ (b : ℕ) (m : List ℕ) where
   unfoldable pub shadow1Cell : ℕ → ℕ → Bool
   shadow1Cell d v = cond (eqb (lent b m d v) 0) true (cond (eqb (lent b m d v) 1) (childCell d v) (lentCell d v))
 
-  -- the three table words of d at v; a mapping of a partition but the root comes from its parent
+  -- a mapping of a partition but the root: not both writable and executable, and it comes from the parent
+  unfoldable pub belowRoot : ℕ → ℕ → Bool
+  belowRoot d v = not (writeAndExecute (mapping b m d v)) && fromParent b m (parent b m d) (word b m d 0) d v
+
+  -- the three table words of d at v
   unfoldable pub cell : ℕ → ℕ → Bool
   cell d v =
       cond (eqb (mapping b m d v) 0) (eqb (lent b m d v) 0 && eqb (above b m d v) 0)
       (entryTest (mapping b m d v) && virtual b (above b m d v) && shadow1Cell d v
-      && (eqb d 1 || fromParent b m (parent b m d) (word b m d 0) d v))
+      && (eqb d 1 || belowRoot d v))
 
   -- a page of d that is neither lent nor accessible; how many there are, and how many kernel pages d's children have
   unfoldable pub shutCell : ℕ → ℕ → Bool
