@@ -10,4 +10,5 @@ pub mod Children
 pub mod Lending
 pub mod Kernel
 pub mod Uses
+pub mod NeverBoth
 pub mod All

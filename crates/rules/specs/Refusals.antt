@@ -2,9 +2,9 @@
 use mathlib.Core.List.{List, [], _∷_}
 use mathlib.Core.Bool.{not}
 use Prim.Native.Nat.{ℕ}
-use lib.Dec.{ltb}
+use lib.Dec.{leb}
 use Rattle.walk.specs.Finite.{any}
-use Rattle.memory.specs.Entry.{readRight, writeRight, allRights}
+use Rattle.memory.specs.Entry.{readRight, writeRight, leastBoth}
 use Rattle.memory.specs.Partition.{current, inHand}
 use Rattle.rules.specs.Refusal.{DAMAGED, SIZE, ADDRESS, TWICE, CHILD, RIGHTS, HAND, TABLE, TAKEN, LIST, FULL-TABLE, DEPTH, ROOT, UNMAPPED, KERNEL}
 use Rattle.rules.specs.Row.{Check, _when_, first}
@@ -23,9 +23,9 @@ module _ (b : ℕ) where
       ∷ RIGHTS when any (lacks b writeRight m) five ∷ DEPTH when tooDeep b m ∷ []
   -- 1 3 5
   refusals m (deletePartition c) = DAMAGED when damaged b m ∷ ADDRESS when badPage b c ∷ CHILD when noChild b m c ∷ []
-  -- 1 3 6 5 7 6 8 9
+  -- 1 3 6 5 7 6 8 9. The first 6: "number above 7", and by document 02, L7, "rights 6 and 7 .. at the place where numbers above 7 are refused"
   refusals m (addVAddr p c t r) =
-      DAMAGED when damaged b m ∷ ADDRESS when any (badPage b) (p ∷ c ∷ t ∷ []) ∷ RIGHTS when ltb allRights r ∷ CHILD when noChild b m c
+      DAMAGED when damaged b m ∷ ADDRESS when any (badPage b) (p ∷ c ∷ t ∷ []) ∷ RIGHTS when leb leastBoth r ∷ CHILD when noChild b m c
       ∷ HAND when notInHand b m p ∷ RIGHTS when lacks b r m p ∷ TABLE when noThree b m (child b m c) t ∷ TAKEN when mapped b m (child b m c) t ∷ []
   -- 1 3 5 8 15 7
   refusals m (removeVAddr c t) =

@@ -6,6 +6,7 @@ use mathlib.Core.Option.{Option, none, some}
 use mathlib.Core.List.{List, [], _∷_}
 use Prim.Native.Nat.{ℕ, _+_, _*_, _/_, _%_, _≤_, _<_}
 use lib.ListN.{length, getD}
+use Rattle.memory.specs.Entry.{leastBoth}
 use Rattle.rules.proofs.model.Base.{eqd, pick}
 use Rattle.rules.proofs.model.Words.{W, addr, word, join, idx, pte, link, Sized}
 
@@ -164,10 +165,10 @@ pub record Sub (r s : ℕ) : Type 0 where
   pub write : r / 2 % 2 ≤ s / 2 % 2
   pub exec : r / 4 ≤ s / 4
 
--- well-formedness
+-- well-formedness: the root has all rights, and below it none is added, nor are write and execute together
 abbrev pub Up : Hop → List Hop → Type 0
 Up h [] = h .rt ≡ 7
-Up h (u ∷ us) = Sub (h .rt) (u .rt)
+Up h (u ∷ us) = Sub (h .rt) (u .rt) × (h .rt < leastBoth)
 
 module _ (b : ℕ) where
   pub record GoodHop (A : Abs) (p : ℕ) (h : Hop) (hs : List Hop) : Type 0 where

@@ -16,6 +16,7 @@ use Rattle.rules.proofs.sound.Children.{sound-children}
 use Rattle.rules.proofs.sound.Lending.{sound-lending}
 use Rattle.rules.proofs.sound.Kernel.{sound-kernel}
 use Rattle.rules.proofs.sound.Uses.{sound-uses}
+use Rattle.rules.proofs.sound.NeverBoth.{sound-never-both}
 
 pub inv-sound : {b : ℕ} (wide : 6 ≤ b) (m : List ℕ) → Inv b m → Sound b m
 inv-sound wide m i = record {
@@ -30,6 +31,7 @@ inv-sound wide m i = record {
   kernel = sound-kernel wide m i;
   uses = sound-uses wide m i;
   absent = sound-absent wide m i;
+  neverBoth = sound-never-both wide m i;
 }
 
 pub inv-whole : {b : ℕ} (wide : 6 ≤ b) (m : List ℕ) → Inv b m → damaged b m ≡ false

@@ -78,7 +78,7 @@ module _ {b : ℕ} (wide : 6 ≤ b) (m : List ℕ) (i : Inv b m) where
             let t : Seen = record { vp = w .vp; rt = w .rt; up = headV ws; below = some c } in
             let z : Mapping b m A d (addr b (w .vp)) p t = mapping-at wide m i d (w .vp) p t l (rw part at (g .0 .mapped)) (rw part at (a .next w ws e)) refl in
             let q : Partition.above b m c u ≡ addr b (w .vp) = y .2 .above ∙ ap (addr b) (a .up ∙ ap headV e) in
-            let r : Sub (a .hop .rt) (w .rt) = subst (Up (a .hop)) e (a .hop-good .rights) in
+            let r : Sub (a .hop .rt) (w .rt) = subst (Up (a .hop)) e (a .hop-good .rights) .0 in
             record {
               mapped = rw q (z .present);
               page = rw q (y .2 .page ∙ sym (z .page));

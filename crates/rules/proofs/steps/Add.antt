@@ -6,6 +6,7 @@ use mathlib.Core.List.{List, [], _∷_}
 use Prim.Native.Nat.{ℕ, _≤_, _<_}
 use native.Mathlib.Omega.{arith}
 use lib.ListN.{length}
+use Rattle.memory.specs.Entry.{leastBoth}
 use Rattle.rules.proofs.model.Base.{eqd, both, upd, upd-same, upd-other, upd2, upd2-same, upd2-other}
 use Rattle.rules.proofs.model.Words.{idx}
 use Rattle.rules.proofs.model.Abs.{hand, desc, Hop, Three, Abs, parts, headV, Seen, seek, threeAt, Sub, GoodHop, Good, WF}
@@ -25,7 +26,7 @@ module _ (b : ℕ) where
     pub cmine : chop .part ≡ o
     pub some-t : t ≢ 0
     pub small : r < 8
-    pub right : Sub r (hop .rt)
+    pub right : Sub r (hop .rt) × (r < leastBoth)
     pub three : (th : Three) × (threeAt (idx b t) (A .threes c) ≡ some th)
     pub free : A .maps c t ≡ none
 

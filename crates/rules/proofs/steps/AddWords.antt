@@ -5,6 +5,8 @@ use mathlib.Core.Bool.{true}
 use mathlib.Core.Option.{Option, none, some}
 use mathlib.Core.List.{List, _∷_}
 use Prim.Native.Nat.{ℕ, _≤_, _<_}
+use native.Mathlib.Omega.{arith}
+use Rattle.memory.specs.Entry.{leastBoth}
 use Rattle.rules.proofs.model.Base.{eqd, both, upd-same, upd-other, upd2-same, upd2-other}
 use Rattle.rules.proofs.model.Words.{W, addr, put, idx, off, pte, pageOf, accOf, rightsOf, pte-nz}
 use Rattle.rules.proofs.model.Abs.{Kind, pt, s1, s2, desc, tab, Abs, headV, Seen, seek, Sub, Good, WF, Cells, Encodes, isHand, lentWord, seenWord, cell}
@@ -149,7 +151,7 @@ module _ (b : ℕ) where
     pub vc-fits : idx b vc < W b
     pub t-fits : idx b t < W b
     pub t-some : t ≢ 0
-    pub rights : r < 8
+    pub rights : r < leastBoth
     pub child : entryAt b m s1 o vc ≡ 1
     pub acc : accOf (entryAt b m pt o vp) ≡ 1
     pub unlent : entryAt b m s1 o vp ≡ 0
@@ -205,8 +207,8 @@ module _ {b : ℕ} (wide : 6 ≤ b) where
             cis = cv .2 .is;
             cmine = cv .2 .part;
             some-t = ck .t-some;
-            small = ck .rights;
-            right = subst (Sub r) (ap rightsOf (rp pt) ∙ hv .2 .rt) (ck .held);
+            small = omega (arith, ck .rights);
+            right = (subst (Sub r) (ap rightsOf (rp pt) ∙ hv .2 .rt) (ck .held), ck .rights);
             three = th;
             free = free-there (cv .0) t (sym (read pt (cv .0) t (cv .1) (ck .t-fits)) ∙ (rw c-is at (ck .free)));
           };

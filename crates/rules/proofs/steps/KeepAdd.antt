@@ -4,9 +4,8 @@ use mathlib.Core.Bool.{true}
 use mathlib.Core.Option.{some}
 use mathlib.Core.List.{List, [], _∷_}
 use Prim.Native.Nat.{ℕ, _≤_}
-use native.Mathlib.Omega.{arith}
-use borrow.Author.Tests.{ltb-false}
-use Rattle.memory.specs.Entry.{allRights}
+use borrow.Author.Tests.{leb-false}
+use Rattle.memory.specs.Entry.{leastBoth}
 use Rattle.memory.specs.Partition.{current}
 use Rattle.rules.specs.Call.{addVAddr, removeVAddr}
 use Rattle.rules.specs.Conditions.{badPage, child}
@@ -90,7 +89,7 @@ module _ {b : ℕ} (wide : 6 ≤ b) (m : List ℕ) (i : Inv b m) where
           vc-fits = gc .fits;
           t-fits = gt .fits;
           t-some = gt .some;
-          rights = omega (arith, ltb-false allRights r (x .1 .1 .0));
+          rights = leb-false leastBoth r (x .1 .1 .0);
           child = a-child b m c (x .1 .1 .1 .0);
           acc = h .0;
           unlent = h .1;
