@@ -42,6 +42,7 @@ module _ (b : ℕ) (wide : 6 ≤ b) (m : List ℕ) (s : Sound b m) where
     closed = λ k d v t. closed b m s t v;
     noLoad = no-load b m s big;
     noStore = no-store b m s big;
+    neverBoth = λ k d v t n. s .neverBoth k d t n v;
     handed = handed (pages b m) (s .header .least);
     oneUse = one-use;
     counted = counts b m s big;

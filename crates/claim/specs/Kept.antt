@@ -8,7 +8,7 @@ use Rattle.memory.specs.Entry.{accessible}
 use Rattle.memory.specs.Partition.{current, mapping}
 use Rattle.memory.specs.Tree.{Has, Child, InTree}
 use Rattle.memory.specs.Uses.{Way, five, listed, Use}
-use Rattle.memory.specs.Sound.{Sound}
+use Rattle.memory.specs.Sound.{WriteAndExecute, Sound}
 use Rattle.memory.specs.Counts.{inHandCount, kernelCount}
 use Rattle.rules.specs.Row.{no}
 use Rattle.rules.specs.Call.{load, store}
@@ -44,6 +44,8 @@ module _ (b : ℕ) (m : List ℕ) where
     -- so the current partition can neither load nor store a kernel page: it is refused by some number
     pub noLoad : (a : ℕ) → KernelPage (pageOf b (mapping b m (current b m) a)) → (r : ℕ) × (answer b m (load a) ≡ no r)
     pub noStore : (a x : ℕ) → KernelPage (pageOf b (mapping b m (current b m) a)) → (r : ℕ) × (answer b m (store a x) ≡ no r)
+    -- "no add-on hold a page both writable and executable" (document 02, L7): no partition but the root, whose descriptor is page 1, maps a page so
+    pub neverBoth : (k d v : ℕ) → InTree b m k d → d ≢ 1 → Has b m d v → ¬ WriteAndExecute b m d v
     -- "The pages handed to the root are 6+3T to N−1, F of them."
     pub handed : 6 + 3 * threesFor b n + flatPages b n ≡ n
     -- each of them is in exactly one hand or serves as exactly one kernel page
