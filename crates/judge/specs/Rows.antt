@@ -8,7 +8,7 @@ use lib.Dec.{leb, eqb}
 use lib.ListN.{getD}
 use Rattle.memory.specs.Geometry.{pageWords, pageOf, mostThrees}
 use Rattle.memory.specs.Words.{word, page}
-use Rattle.memory.specs.Entry.{accessible, rights, allRights, holds}
+use Rattle.memory.specs.Entry.{accessible, rights, allRights, holds, writeAndExecute}
 use Rattle.memory.specs.Partition.{directory, shadow1, parent, threes, tableFor, tableWord}
 use Rattle.memory.specs.Counts.{childAt}
 use Rattle.soundness.specs.Test.{virtual, childTest, kernelShut}
@@ -50,6 +50,10 @@ module _ (b : ℕ) (m : List ℕ) where
       && eqb (accessible w) (accessible (tableWord b m dir (pageOf b y))) && holds (rights w) (tableWord b m dir (pageOf b y))
       && eqb (tableWord b m sh1 (pageOf b y)) v
 
+  -- a mapping of a partition but the root
+  abbrev pub belowWords : ℕ → ℕ → ℕ → ℕ → ℕ → Bool
+  belowWords dir sh1 v w y = not (writeAndExecute w) && fromWords dir sh1 v w y
+
   abbrev pub lentWord : ℕ → ℕ → Bool
   lentWord d x = virtual b x && not (eqb (tableFor b m d x) 0) && childAt b m d x
 
@@ -67,7 +71,7 @@ module _ (b : ℕ) (m : List ℕ) where
   cellWords d v w x y =
       cond (eqb w 0) (eqb x 0 && eqb y 0)
       (entryTest b m w && virtual b y && shadow1Word d v w x
-      && (eqb d 1 || fromWords (directory b m (parent b m d)) (shadow1 b m (parent b m d)) (word b m d 0) w y))
+      && (eqb d 1 || belowWords (directory b m (parent b m d)) (shadow1 b m (parent b m d)) (word b m d 0) w y))
 
 -- the last word above 1, once x is reached
 abbrev pub lastWord : ℕ → ℕ → ℕ

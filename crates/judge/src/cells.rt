@@ -19,6 +19,7 @@ use pages::page_words;
 use pages::parent;
 use pages::read;
 use pages::read_word;
+use pages::rights;
 use pages::shadow1;
 use pages::shadow2;
 use pages::table_word;
@@ -33,7 +34,7 @@ ghost use Rattle.walk.specs.Finite.{from};
 ghost use Rattle.memory.specs.Geometry.{pageWords, address};
 ghost use Rattle.judging.specs.Quick.{rise};
 ghost use Rattle.judge.specs.Run.{run, asking};
-ghost use Rattle.judge.specs.Rows.{virtualPages, Lends, fromWords, lentWord, Passed, shadow1Word, cellWords, lastWord, riseAt};
+ghost use Rattle.judge.specs.Rows.{virtualPages, Lends, fromWords, belowWords, lentWord, Passed, shadow1Word, cellWords, lastWord, riseAt};
 ghost use Rattle.judge.specs.Alone.{cellsTest};
 ghost use Rattle.judge.specs.Asked.{LookedUp};
 ghost use Rattle.judge.specs.Blocks.{emptyBlock};
@@ -97,7 +98,8 @@ pub fn from_parent(b: u32, m: &[u32], p: Lender, child: u32, w: u32, y: u32) -> 
     table_word(b, m, p.shadow1, v) == child
 }
 
-// A mapping of the root comes from no other partition.
+// A mapping of the root comes from no other partition. One of another partition is not "both writable and executable" (document 02, L7): its rights are not 6
+// or 7.
 pub fn origin(b: u32, m: &[u32], a: Asked, w: u32, y: u32) -> bool
     requires { ⌜ Width b ⌝ }
     requires known { ⌜ LookedUp b (now m) a ⌝ }
@@ -105,11 +107,14 @@ pub fn origin(b: u32, m: &[u32], a: Asked, w: u32, y: u32) -> bool
         ⌜
         r
         ≡ (eqb (a .descriptor .0) 1
-        || fromWords b (now (m .entry)) (a .parent .directory .0) (a .parent .shadow1 .0) (a .child) w y)
+        || belowWords b (now (m .entry)) (a .parent .directory .0) (a .parent .shadow1 .0) (a .child) w y)
         ⌝ }
 {
     if a.descriptor.0 == 1 {
         return true;
+    }
+    if rights(w) >= 6 {
+        return false;
     }
     from_parent(b, m, a.parent, a.child, w, y)
 }

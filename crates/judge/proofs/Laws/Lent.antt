@@ -16,7 +16,7 @@ use Rattle.memory.proofs.Tables.{tableWord-absent}
 use Rattle.soundness.specs.Test.{virtual, childTest, kernelShut}
 use Rattle.judging.specs.Quick.{entryTest}
 use Rattle.forms.proofs.Laws.Tests.{and-false}
-use Rattle.judge.specs.Rows.{fromWords, lentWord, Passed, shadow1Word, cellWords, lastWord}
+use Rattle.judge.specs.Rows.{belowWords, lentWord, Passed, shadow1Word, cellWords, lastWord}
 
 -- the word of address x that the code read under a root that it had looked up
 pub word-under : (b : ℕ) (m : List ℕ) {root r v u : ℕ} (x : ℕ) → u ≡ tableWord b m r v → r ≡ root → v ≡ pageOf b x → u ≡ tableWord b m root (pageOf b x)
@@ -55,7 +55,7 @@ module _ (b : ℕ) (m : List ℕ) (d : ℕ) where
   lent-passed v w x y g h =
       go (eqb x 0) (eqb x 1) (eqb w 0) (entryTest b m w) (virtual b y)
       (leb (threes b m (pageOf b w)) mostThrees && childTest b m d v (pageOf b w) && kernelShut b m d (pageOf b w))
-      (lentWord b m d x) (eqb d 1 || fromWords b m (directory b m (parent b m d)) (shadow1 b m (parent b m d)) (word b m d 0) w y) (eqb y 0)
+      (lentWord b m d x) (eqb d 1 || belowWords b m (directory b m (parent b m d)) (shadow1 b m (parent b m d)) (word b m d 0) w y) (eqb y 0)
       (ne-eqb x 0 (λ e. omega (arith, g, e))) (ne-eqb x 1 (λ e. omega (arith, g, e))) h
     where
       go : (p q z e f c l o y : Bool) → p ≡ false → q ≡ false → cond z (p && y) (e && f && cond p true (cond q c l) && o) ≡ true → l ≡ true

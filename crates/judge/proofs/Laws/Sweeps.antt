@@ -17,10 +17,10 @@ use Rattle.memory.specs.Partition.{pages, directory, shadow1, shadow2, parent, 
 use Rattle.memory.specs.Counts.{row, tabled, childAt, childOf, children, handAddresses}
 use Rattle.memory.proofs.Geometry.{page-address}
 use Rattle.soundness.specs.Test.{rootMapTest, fromParent, handPages}
-use Rattle.judging.specs.Quick.{rise, top, childCell, lentCell, shadow1Cell, cell, shutCell, shutCount, dueCount, lentCount, mappedCount, sources}
+use Rattle.judging.specs.Quick.{rise, top, childCell, lentCell, shadow1Cell, belowRoot, cell, shutCell, shutCount, dueCount, lentCount, mappedCount, sources}
 use Rattle.judge.specs.Blocks.{emptyBlock}
 use Rattle.judge.specs.Run.{run, adding, asking, marking, bit}
-use Rattle.judge.specs.Rows.{table, used, childWords, shutWords, handWords, dueWords, Lends, fromWords, cellWords, riseAt, rootWord, rootWords}
+use Rattle.judge.specs.Rows.{table, used, childWords, shutWords, handWords, dueWords, Lends, belowWords, cellWords, riseAt, rootWord, rootWords}
 use Rattle.judge.proofs.Laws.Run.{run-image, run-keep, run-next, run-skip, sum-on, length-run, sums-run, all-run, each-run}
 use Rattle.judge.proofs.Laws.Blocks.{empty-word}
 use Rattle.judge.proofs.Laws.Rows.{cell-at, row-run, rows-short}
@@ -75,7 +75,7 @@ cell-words b m d v {w} {x} {y} {w′} {x′} {y′} e f g =
 
 -- the parent and the address there that the code looked up
 pub from-lender : (b : ℕ) (m : List ℕ) (d w y : ℕ) {dir sh1 v : ℕ} → Lends b m (parent b m d) dir sh1 → v ≡ word b m d 0
-    → fromWords b m dir sh1 v w y ≡ fromWords b m (directory b m (parent b m d)) (shadow1 b m (parent b m d)) (word b m d 0) w y
+    → belowWords b m dir sh1 v w y ≡ belowWords b m (directory b m (parent b m d)) (shadow1 b m (parent b m d)) (word b m d 0) w y
 from-lender b m d w y (e, f) g = rw (e, f, g)
 
 pub root-words : (b t flat v : ℕ) {w y w′ y′ : ℕ} → w ≡ w′ → y ≡ y′ → rootWords b t flat v w y ≡ rootWords b t flat v w′ y′
@@ -212,7 +212,7 @@ module _ (b : ℕ) (m : List ℕ) (d : ℕ) where
 
       module _ {s2 sh2 : List ℕ} {y : ℕ} (e2 : sh2 ≡ page b m (shadow2 b m d)) (ey : y ≡ getD sh2 i 0) (et : s2 ≡ table b m y) where
         cell-is : (v : ℕ) → cell b m d v ≡ cellWords b m d v (mapping b m d v) (lent b m d v) (above b m d v)
-        unfolding cell shadow1Cell childCell lentCell fromParent childOf
+        unfolding cell shadow1Cell childCell lentCell belowRoot fromParent childOf
         cell-is v = refl
 
         pub cells-row : {r : Bool} {v : ℕ} → v ≡ i * pageWords b
