@@ -4,7 +4,7 @@ use mathlib.Core.Bool.{Bool, true, false, not, _&&_}
 use mathlib.Core.List.{List, [], _∷_}
 use Prim.Native.Nat.{ℕ, _<_}
 use native.Mathlib.Omega.{arith}
-use borrow.Author.Tests.{not-true, not-false, ltb-false}
+use borrow.Author.Tests.{not-true, not-false, leb-false}
 use lib.Dec.{leb}
 use Rattle.memory.specs.Geometry.{pageOf}
 use Rattle.memory.specs.Entry.{entry}
@@ -21,10 +21,10 @@ use Rattle.moves.specs.Rows.{pageChecks}
 use Rattle.moves.proofs.OnePage.{one-page}
 
 module _ (b : ℕ) (m : List ℕ) (p c t r : ℕ) where
-  -- "number above 7" was not given
+  -- no number above 7 was given
   pub add-rights : refusal b m (addVAddr p c t r) ≡ 0 → r < 8
   unfolding refusals
-  add-rights e = omega (arith, ltb-false 7 r (passed (refusals b m (addVAddr p c t r)) e .1 .1 .0))
+  add-rights e = omega (arith, leb-false 6 r (passed (refusals b m (addVAddr p c t r)) e .1 .1 .0))
 
   pub add-is : {d k w x : ℕ} {m₁ m₂ m₃ : List ℕ} → d ≡ current b m → k ≡ child b m c → w ≡ mapping b m d p → x ≡ entry b (pageOf b w) 1 r
       → m₁ ≡ setMapping b m k t x → m₂ ≡ setAbove b m₁ k t p → m₃ ≡ setLent b m₂ d p c → m₃ ≡ effect b m (addVAddr p c t r)

@@ -10,7 +10,7 @@ ghost use Rattle.rules.specs.Calls.{answer, after};
 ghost use Rattle.pages.specs.Width.{Width};
 ghost use Rattle.answers.specs.Said.{said};
 
-// 1 3 6 5 7 6 8 9
+// 1 3 6 5 7 6 8 9. The first 6: "number above 7", and rights 6 and 7 (document 02, L7).
 fn add_refusal(b: u32, m: &[u32], good: bool, p: u32, c: u32, t: u32, r: u32) -> u32
     requires { ⌜ Width b ⌝ }
     requires judged { ⌜ good ≡ soundTest b (now m) ⌝ }
@@ -20,7 +20,7 @@ fn add_refusal(b: u32, m: &[u32], good: bool, p: u32, c: u32, t: u32, r: u32) ->
     if n != 0 {
         return n;
     }
-    if r > 7 {
+    if r >= 6 {
         return 6;
     }
     if moves::no_child(b, m, c) {

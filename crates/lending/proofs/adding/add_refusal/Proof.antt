@@ -4,7 +4,8 @@ use mathlib.Core.Path.{sym, ap, _∙_}
 use Prim.Native.Nat.{ℕ}
 use native.Mathlib.Omega.{arith}
 use borrow.Author.Needs.{needs}
-use borrow.Author.Tests.{lt-ltb, le-ltb}
+use borrow.Author.Tests.{le-leb, lt-leb}
+use Rattle.memory.specs.Entry.{leastBoth}
 use Rattle.rules.proofs.Rows.{on, at, none, first-is, stops, goes-on}
 use Rattle.rules.specs.Conditions.{noThree, unmapped}
 use Rattle.rules.specs.Refusals.{refusals}
@@ -26,9 +27,10 @@ returns c =
 returns-2 : tie.Need-returns-2
 unfolding refusals
 returns-2 c =
-    let c₁ = c .before in (
+    let c₁ = c .before in
+    let s = c₁ .before .before .before .before .args in (
       sym (first-is
-          (at (lt-ltb _ _ (c .if2 .taken))))
+          (at (le-leb leastBoth (s .r) (omega (arith, c .if2 .taken)))))
           ∙ goes-on _ _ _ (c₁ .before .page-refusal .ensures .0) (c₁ .if1 .left),
       omega arith,
     )
@@ -40,9 +42,10 @@ returns-3 : tie.Need-returns-3
 unfolding refusals
 returns-3 c =
     let c₁ = c .before .before in
-    let c₂ = c₁ .before in (
+    let c₂ = c₁ .before in
+    let s = c₂ .before .before .before .before .args in (
       sym (first-is
-          (on (le-ltb _ _ (c₁ .if2 .left))
+          (on (lt-leb leastBoth (s .r) (omega (arith, c₁ .if2 .left)))
           (at (sym (c .before .no-child .ensures) ∙ c .if3 .taken))))
           ∙ goes-on _ _ _ (c₂ .before .page-refusal .ensures .0) (c₂ .if1 .left),
       omega arith,
@@ -58,7 +61,7 @@ returns-4 c =
     let c₂ = c₁ .before .before in
     let c₃ = c₂ .before in (
       sym (first-is
-          (on (le-ltb _ _ (c₂ .if2 .left))
+          (on (lt-leb _ _ (c₂ .if2 .left))
           (on (sym (c₁ .before .no-child .ensures) ∙ c₁ .if3 .left)
           (at (sym (c .before .not-in-hand .ensures) ∙ c .if4 .taken)))))
           ∙ goes-on _ _ _ (c₃ .before .page-refusal .ensures .0) (c₃ .if1 .left),
@@ -76,7 +79,7 @@ returns-5 c =
     let c₃ = c₂ .before .before in
     let c₄ = c₃ .before in (
       sym (first-is
-          (on (le-ltb _ _ (c₃ .if2 .left))
+          (on (lt-leb _ _ (c₃ .if2 .left))
           (on (sym (c₂ .before .no-child .ensures) ∙ c₂ .if3 .left)
           (on (sym (c₁ .before .not-in-hand .ensures) ∙ c₁ .if4 .left)
           (at (sym (c .before .lacks .ensures) ∙ c .if5 .taken))))))
@@ -101,7 +104,7 @@ returns-6 c =
     let s = c₅ .before .before .before .before .args in
     let k = c .before .before .child-of .ensures in (
       sym (first-is
-          (on (le-ltb _ _ (c₄ .if2 .left))
+          (on (lt-leb _ _ (c₄ .if2 .left))
           (on (sym (c₃ .before .no-child .ensures) ∙ c₃ .if3 .left)
           (on (sym (c₂ .before .not-in-hand .ensures) ∙ c₂ .if4 .left)
           (on (sym (c₁ .before .lacks .ensures) ∙ c₁ .if5 .left)
@@ -125,7 +128,7 @@ returns-7 c =
     let s = c₆ .before .before .before .before .args in
     let k = c₁ .before .before .child-of .ensures in (
       sym (first-is
-          (on (le-ltb _ _ (c₅ .if2 .left))
+          (on (lt-leb _ _ (c₅ .if2 .left))
           (on (sym (c₄ .before .no-child .ensures) ∙ c₄ .if3 .left)
           (on (sym (c₃ .before .not-in-hand .ensures) ∙ c₃ .if4 .left)
           (on (sym (c₂ .before .lacks .ensures) ∙ c₂ .if5 .left)
@@ -147,7 +150,7 @@ returns-8 c =
     let s = c₆ .before .before .before .before .args in
     let k = c₁ .before .before .child-of .ensures in (
       sym (first-is
-          (on (le-ltb _ _ (c₅ .if2 .left))
+          (on (lt-leb _ _ (c₅ .if2 .left))
           (on (sym (c₄ .before .no-child .ensures) ∙ c₄ .if3 .left)
           (on (sym (c₃ .before .not-in-hand .ensures) ∙ c₃ .if4 .left)
           (on (sym (c₂ .before .lacks .ensures) ∙ c₂ .if5 .left)
