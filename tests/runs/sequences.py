@@ -10,7 +10,7 @@ LOFT = 64 * PAGE         # where pages are lent to a child: its table at directo
 def twelve(page):
     """Each call once, with addresses on the first pages."""
     a = [page * k for k in range(17)]
-    return [[1] + a[1:6], [2, a[1]], [3, a[1], a[2], a[16], 7], [4, a[1], a[16]], [5, a[1], a[16]], [6, a[1], a[16], a[2]], [7, a[1], a[16]],
+    return [[1] + a[1:6], [2, a[1]], [3, a[1], a[2], a[16], 3], [4, a[1], a[16]], [5, a[1], a[16]], [6, a[1], a[16], a[2]], [7, a[1], a[16]],
             [8, a[1]], [9, a[1]], [10], [11, a[1]], [12, a[1], 1]]
 
 
@@ -30,7 +30,7 @@ def down(base, pages, size=PAGE):
     """From pages in hand in a row: five make a child, three a three for it, the others are lent to it at directory index 1; then it is entered."""
     at, loft = [base + size * k for k in range(pages)], size // 4 * size
     return [[1] + at[:5], [12, at[5], at[6]], [12, at[6], at[7]], [6, base, loft, at[5]]] + \
-           [[3, page, base, loft + size * k, 7] for k, page in enumerate(at[8:])] + [[9, base]]
+           [[3, page, base, loft + size * k, 3] for k, page in enumerate(at[8:])] + [[9, base]]
 
 
 def barred():
@@ -88,6 +88,22 @@ def asked():
     return [(33 * 64, alone(small + ask(PAGE, 24) + [[2, PAGE]] + ask(PAGE, 24))), (20 * 1024, alone(large + ask(LARGE, 11, LARGE)))]
 
 
+def rights():
+    """Every number of rights, lent to a child and taken back: 6 and 7 are refused with 6, like those above 7. That comes after a bad address and before no
+    child, no page in hand, no three and a place that is taken. With small pages the child lends on what it holds, and a right that it lacks is refused."""
+    some = [0, 1, 2, 3, 4, 5, 6, 7, 8, 14, 2 ** 31 + 3, 2 ** 32 - 1]
+    out = []
+    for words, size, edition in (40 * 64, PAGE, 0), (20 * 1024, LARGE, 1):
+        a, loft = [size * k for k in range(40)], size // 4 * size
+        wrong = [[a[9], a[1] + 4, loft], [a[9], a[2], loft], [a[1], a[1], loft], [a[9], a[1], 2 * loft], [a[9], a[1], loft + size]]
+        calls = [[0, edition]] + down(a[1], 8, size)[:4] + [call for r in some for call in ([3, a[9], a[1], loft, r], [4, a[1], loft])]
+        calls += [[3, a[10], a[1], loft + size, 5]] + [[3] + given + [r] for given in wrong for r in (5, 6, 7, 8)]
+        out.append((words, alone(calls)))
+    held = [[3, LOFT + PAGE * 8, LOFT, LOFT, r] for r in some]
+    family = down(PAGE, 23) + down(LOFT, 8)[:4] + [call for lend in held for call in (lend, [4, LOFT, LOFT])] + [held[1], [9, LOFT], [12, LOFT, 1], [11, LOFT]]
+    return out + [(40 * 64, alone([[0, 0]] + family))]
+
+
 def together():
     """Many calls in one part, a cut call, and numbers that no call has: what follows in the part is not run, the next part is."""
     chained = [[12, 1536, 1792], [12, 1792, 2048], [6, 256, 4096, 1536]]
@@ -117,9 +133,9 @@ def large_pages():
     """The bench morning with large pages, twice; and the last virtual page: as an argument, as a link, and mapped in a child."""
     last = 2 ** 32 - LARGE
     a = [LARGE * k for k in range(12)]
-    edge = [[0, 1], [8, last], [11, last + 4092], [8, last + 1], [9, last], [1] + a[1:6], [3, last, a[1], a[1], 7], [6, a[1], last, last],
+    edge = [[0, 1], [8, last], [11, last + 4092], [8, last + 1], [9, last], [1] + a[1:6], [3, last, a[1], a[1], 3], [6, a[1], last, last],
             [12, a[6], last], [6, a[1], last, a[6]], [12, a[6], a[7]], [12, a[7], a[8]], [5, a[1], last], [6, a[1], last, a[6]], [5, a[1], last],
-            [3, a[9], a[1], last, 7], [3, a[10], a[1], last, 3], [3, a[10], a[1], last - LARGE, 3], [3, a[11], a[1], a[1], 3], [8, a[9]],
+            [3, a[9], a[1], last, 3], [3, a[10], a[1], last, 3], [3, a[10], a[1], last - LARGE, 3], [3, a[11], a[1], a[1], 3], [8, a[9]],
             [9, a[1]], [12, last + 4092, 77], [11, last + 4092], [12, last - 4, 78], [11, last - LARGE - 4], [10], [11, a[9] + 4092], [11, a[10] + 4092],
             [4, a[1], last], [4, a[1], last], [7, a[1], last], [4, a[1], last - LARGE], [7, a[1], last], [2, a[1]]]
     return [(20 * 1024, alone([[0, 1]] + morning(LARGE) + [[0, 0], [0, 1]] + morning(LARGE))), (20 * 1024, alone(edge))]

@@ -6,12 +6,12 @@ three in pages 22 to 24, and root page 17 is lent through both. Memories of 16 l
 them; the child is page 9 there, too."""
 
 FAMILY = [[1, 256, 512, 768, 1024, 1280], [12, 1536, 1792], [12, 1792, 2048], [6, 256, 4096, 1536],
-          [3, 2304, 256, 4096, 7], [3, 2560, 256, 4352, 7], [3, 2816, 256, 4608, 7], [3, 3072, 256, 4864, 7], [3, 3328, 256, 5120, 7],
-          [3, 3584, 256, 5376, 7], [3, 3840, 256, 5632, 7], [3, 4096, 256, 5888, 7], [3, 4352, 256, 6144, 3],
+          [3, 2304, 256, 4096, 3], [3, 2560, 256, 4352, 3], [3, 2816, 256, 4608, 3], [3, 3072, 256, 4864, 3], [3, 3328, 256, 5120, 3],
+          [3, 3584, 256, 5376, 3], [3, 3840, 256, 5632, 3], [3, 4096, 256, 5888, 3], [3, 4352, 256, 6144, 3],
           [9, 256], [1, 4096, 4352, 4608, 4864, 5120], [12, 5376, 5632], [12, 5632, 5888], [6, 4096, 8192, 5376], [3, 6144, 4096, 8192, 1], [10]]
 SECOND_CHILD = [[1, 4608, 4864, 5120, 5376, 5632]]
 # two pages are lent to the child so that its shadow 2 words fall
-FALLING = FAMILY[:4] + [[3, 2304, 256, 4352, 7], [3, 2560, 256, 4096, 7]]
+FALLING = FAMILY[:4] + [[3, 2304, 256, 4352, 3], [3, 2560, 256, 4096, 3]]
 
 
 LARGE_CHILD = [[0, 1], [1, 4096, 8192, 12288, 16384, 20480]]
@@ -34,7 +34,7 @@ def deep():
         a = [first + 256 * i for i in range(8)]
         calls += [[1] + a[:5], [12, a[5], a[6]], [12, a[6], a[7]], [6, a[0], 64 * 256, a[5]]]
         left = 8 * (8 - level - 1)
-        calls += [[3, first + 256 * (8 + i), a[0], 64 * 256 + 256 * i, 7] for i in range(left)]
+        calls += [[3, first + 256 * (8 + i), a[0], 64 * 256 + 256 * i, 3] for i in range(left)]
         calls += [[9, a[0]]]
     return calls
 
@@ -65,14 +65,20 @@ CASES = [
     ('3: a three listed in another order', 40, FAMILY, [at(13, 3, 2048), at(13, 4, 4096), at(13, 5, 1792), at(13, 6, 3840)], [3]),
     ("4: a child's parent another page", 40, FAMILY, [at(9, 11, 512)], [4]),
     ('5: current no partition', 40, FAMILY, [at(0, 4, 2560)], [5]),
-    ('6: a right added', 40, FAMILY, [at(22, 32, 6431)], [6]),
+    ('6: a right added', 40, FAMILY, [at(22, 32, 6423)], [6]),
     ('6: a page mapped twice in a child', 40, FAMILY, [at(14, 25, 6415), at(15, 25, 4096), at(16, 25, 4352)], [6]),
-    ('6: a page mapped twice, words that fall', 40, FALLING, [at(14, 18, 4383), at(16, 18, 2304)], [6, 8]),
+    ('6: a page mapped twice, words that fall', 40, FALLING, [at(14, 18, 4367), at(16, 18, 2304)], [6, 8]),
     ('6: a lent page not mapped in the child', 40, FAMILY, [at(22, 32, 0), at(24, 32, 0)], [6, 8]),
     ('6: a lent page not mapped, words that fall', 40, FALLING, [at(14, 16, 0), at(16, 16, 0)], [6, 8]),
     ("7: a child's descriptor accessible", 40, FAMILY, [at(6, 1, 2335)], [7]),
     ('8: one page in two kernel uses', 40, FAMILY + SECOND_CHILD, [at(26, 6, 5120), at(26, 7, 7168), at(6, 21, 7455)], [8]),
     ('9: a shadow 2 word with no mapping', 40, FAMILY, [at(16, 3, 256)], [9]),
+    ('12: a page in hand to write and execute', 40, FALLING, [at(14, 16, 4635)], [12]),
+    ('12: a page in hand with all rights', 40, FALLING, [at(14, 16, 4639)], [12]),
+    ('12: a page lent on with all rights', 40, FAMILY, [at(14, 24, 6431)], [12]),
+    ('12: a kernel page of a grandchild to write and execute', 40, FAMILY, [at(14, 16, 4377)], [12]),
+    ('12: a page of a grandchild with all rights', 40, FAMILY, [at(14, 24, 6431), at(22, 32, 6431)], [12]),
+    ('rights to read and execute', 40, FALLING, [at(14, 16, 4631)], []),
     ('large pages: fresh', 256, [[0, 1]], [], []),
     ('large pages: a child', 256, LARGE_CHILD, [], []),
     ('large pages: a child is current', 256, LARGE_CHILD + [[9, 4096]], [], []),
