@@ -195,19 +195,19 @@ def compare_listed(definitions, what, first, calls):
 # The memory at the start of slips.txt, with six pages more lent to the child, two of them without write or read. For each call arguments that pass but where
 # only a refusal is wanted, in the root and in its child, and the kinds that take their places: bad addresses, unmapped, in hand, children, kernel pages, lent
 # ones; targets with and without tables, mapped or not; rights.
-LENT = ['3 4608 256 6400 1', '3 4864 256 6656 2', '3 5120 256 6912 7', '3 5376 256 7168 7', '3 5632 256 7424 7', '3 5888 256 7680 7']
-PASSING = {1: [[6144, 6400, 6656, 6912, 7168], [6912, 7168, 7424, 7680, 6400]], 2: [[256], [4096]], 3: [[7424, 256, 8448, 7], [7424, 4096, 8448, 1]],
+LENT = ['3 4608 256 6400 1', '3 4864 256 6656 2', '3 5120 256 6912 3', '3 5376 256 7168 3', '3 5632 256 7424 3', '3 5888 256 7680 3']
+PASSING = {1: [[6144, 6400, 6656, 6912, 7168], [6912, 7168, 7424, 7680, 6400]], 2: [[256], [4096]], 3: [[7424, 256, 8448, 5], [7424, 4096, 8448, 1]],
            4: [[256, 7680], [4096, 8192]], 5: [[256, 8192], [4096, 8192]], 6: [[256, 16384, 7168], [4096, 16384, 6912]], 7: [[256, 4096], [4096, 8192]],
            8: [[4608], [6400]], 9: [[256], [4096]], 11: [[7168], [6912]], 12: [[7168, 7424], [6912, 7168]]}
 PAGES = [0, 300, 1048576, 1044480, 4294963200, 256, 512, 2304, 4352, 4096, 5376, 6144, 6400, 6656, 7168, 7936, 8192]
 CHILDREN, TARGETS = [256, 4096, 512, 0, 1048576, 4294963200], [4096, 6144, 8192, 8448, 16384, 4294963200, 257, 0]
-RIGHTS, STORED = [0, 1, 4, 7, 8, 4294967295], [0, 7168, 7424]
+RIGHTS, STORED = [0, 1, 4, 5, 6, 7, 8, 4294967295], [0, 7168, 7424]
 KINDS = {1: [PAGES] * 5, 2: [CHILDREN], 3: [PAGES, CHILDREN, TARGETS, RIGHTS], 4: [CHILDREN, TARGETS], 5: [CHILDREN, TARGETS], 6: [CHILDREN, TARGETS, PAGES],
          7: [CHILDREN, TARGETS], 8: [PAGES], 9: [CHILDREN], 11: [PAGES + [4, 6914]], 12: [PAGES + [4, 6914], STORED]}
 # What undoes a call that passed, by its number and arguments; a page that was removed is lent to its child again.
 UNDONE = {1: lambda given, again: [2, given[0]], 3: lambda given, again: [4, given[1], given[2]], 4: lambda given, again: [3] + again[given[0]],
           6: lambda given, again: [7, given[0], given[1]], 9: lambda given, again: [10]}
-AGAIN = {256: [5888, 256, 7680, 7], 4096: [6144, 4096, 8192, 1]}
+AGAIN = {256: [5888, 256, 7680, 3], 4096: [6144, 4096, 8192, 1]}
 # What each call has to be refused with; 1 and 2 are given for memories and lengths that are not sound, 10 and 13 need ten threes and eight levels.
 REFUSED = {1: [3, 4, 7, 6], 2: [3, 5], 3: [3, 6, 5, 7, 8, 9], 4: [3, 5, 8, 15, 7], 5: [3, 5], 6: [3, 5, 9, 11, 7, 6], 7: [3, 5, 8, 12], 8: [3, 15, 16],
            9: [3, 5], 10: [14], 11: [3, 15, 16, 6], 12: [3, 15, 16, 6]}

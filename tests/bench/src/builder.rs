@@ -7,7 +7,7 @@ use second::memory::{CURRENT, ROOT_PAGE};
 
 /// The directory index at which every child has its first three, so that virtual page 0 stands in none of its tables.
 const FIRST_INDEX: usize = 1;
-const ALL_RIGHTS: u32 = 7;
+const READ_WRITE: u32 = 3;
 
 /// A call, and how the memory just before it differs from the whole tree's.
 #[derive(Clone)]
@@ -119,14 +119,14 @@ impl Builder {
     /// Lends a page, as the child's page k.
     pub fn lend(&mut self, child: u32, k: usize) {
         let (page, target) = (self.take(), self.target(k));
-        self.call(3, &[page, child, target, ALL_RIGHTS]);
+        self.call(3, &[page, child, target, READ_WRITE]);
     }
 
     /// Takes the child's page k back, lends it again and asks for it.
     pub fn lend_again(&mut self, child: u32, k: usize) {
         let target = self.target(k);
         let page = self.call(4, &[child, target]);
-        self.call(3, &[page, child, target, ALL_RIGHTS]);
+        self.call(3, &[page, child, target, READ_WRITE]);
         self.call(8, &[page]);
     }
 
@@ -170,7 +170,7 @@ impl Builder {
         let calls: [(u32, &[u32]); 12] = [
             (1, &five),
             (2, &[nowhere]),
-            (3, &[page, child, nowhere, ALL_RIGHTS]),
+            (3, &[page, child, nowhere, READ_WRITE]),
             (4, &[child, nowhere]),
             (5, &[nowhere, nowhere]),
             (6, &[child, nowhere, nowhere]),

@@ -125,6 +125,7 @@ fn edge_calls(free: u32) -> Vec<Vec<u32>> {
         vec![12, page(free - 6), page(2)],
         vec![6, child, last, page(free - 5)],
         vec![3, page(1), child, last, 7],
+        vec![3, page(1), child, last, 5],
         vec![3, page(free - 7), child, last - page(1), 3],
         vec![8, page(1)],
         vec![12, page(free - 4), 1],

@@ -6,6 +6,7 @@ use crate::ways::Ways;
 use second::calls::Answer;
 use second::cover::Cover;
 use second::geometry::{Edition, EDITIONS};
+use second::sound::numbers;
 use std::collections::BTreeMap;
 use std::fmt;
 
@@ -16,8 +17,10 @@ const NONE: usize = EDITIONS.len();
 pub struct Part {
     /// Format stands with the edition that it is to choose.
     pub cover: Cover,
-    /// Memories of other words by what they break: nothing, each sentence alone, more than one.
-    judged: [u64; 11],
+    /// Memories of other words: the sound ones, those that break one sentence alone, by its number, and those that break several.
+    sound: u64,
+    alone: BTreeMap<u32, u64>,
+    several: u64,
     /// Those of them whose header named the other edition before.
     pub from_the_other: u64,
     /// Verdicts of sound memories, and of others.
@@ -42,17 +45,18 @@ fn add(own: &mut [u64], other: &[u64]) {
 
 impl Part {
     pub fn judged(&mut self, broken: &[u32]) {
-        let place = match *broken {
-            [] => 0,
-            [sentence] => sentence as usize,
-            _ => 10,
-        };
-        self.judged[place] += 1;
+        *match *broken {
+            [] => &mut self.sound,
+            [sentence] => self.alone.entry(sentence).or_default(),
+            _ => &mut self.several,
+        } += 1;
     }
 
     fn add(&mut self, other: &Part) {
         self.cover.add(&other.cover);
-        add(&mut self.judged, &other.judged);
+        self.sound += other.sound;
+        other.alone.iter().for_each(|(&sentence, count)| *self.alone.entry(sentence).or_default() += count);
+        self.several += other.several;
         add(&mut self.verdicts, &other.verdicts);
         self.from_the_other += other.from_the_other;
     }
@@ -60,7 +64,7 @@ impl Part {
     /// What has to occur on memories of an edition, and did not.
     fn missing(&self) -> Vec<String> {
         let mut missing = self.cover.missing();
-        let sentences = (1..10).filter(|&sentence| self.judged[sentence] == 0);
+        let sentences = numbers().filter(|sentence| !self.alone.contains_key(sentence));
         missing.extend(sentences.map(|sentence| format!("sentence {sentence} broken alone")));
         let verdicts = [0, 1].into_iter().filter(|&verdict| self.verdicts[verdict] == 0);
         missing.extend(verdicts.map(|verdict| format!("verdict {verdict}")));
@@ -121,13 +125,14 @@ impl Tally {
 
 impl fmt::Display for Part {
     fn fmt(&self, f: &mut fmt::Formatter) -> fmt::Result {
-        let (judged, [sound, alone @ .., several]) = (self.judged.iter().sum::<u64>(), self.judged);
+        let (sound, several) = (self.sound, self.several);
         writeln!(
             f,
-            "{judged} memories of other words: {sound} sound, {several} break several sentences; {} were of the other edition",
+            "{} memories of other words: {sound} sound, {several} break several sentences; {} were of the other edition",
+            sound + several + self.alone.values().sum::<u64>(),
             self.from_the_other
         )?;
-        let alone: Vec<_> = alone.iter().zip(1..).map(|(count, sentence)| format!("{sentence}: {count}")).collect();
+        let alone: Vec<_> = self.alone.iter().map(|(sentence, count)| format!("{sentence}: {count}")).collect();
         writeln!(f, "sentences broken alone: {}", alone.join(", "))?;
         let [sound, damaged] = self.verdicts;
         writeln!(f, "{} verdicts: {sound} sound, {damaged} damaged", sound + damaged)

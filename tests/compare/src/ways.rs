@@ -24,7 +24,7 @@ type Way = (&'static str, fn(&Look) -> bool);
 /// With large pages no address is too large.
 const TOO_LARGE: &str = "any call no 3: 2^20 or above";
 
-const WAYS: [Way; 41] = [
+const WAYS: [Way; 44] = [
     ("format ok: over a sound memory of the other edition", |l| {
         l.ok(0) && l.line[1] != l.edition.number && sound(l.mem).is_ok()
     }),
@@ -40,7 +40,12 @@ const WAYS: [Way; 41] = [
         l.ok(2) && l.child().is_some_and(|c| children(l.mem, &c).next().is_some())
     }),
     ("addVAddr no 6: a number above 7", |l| l.no(3, RIGHTS) && l.line[4] > ALL_RIGHTS),
-    ("addVAddr no 6: a right not held", |l| l.no(3, RIGHTS) && l.line[4] <= ALL_RIGHTS),
+    ("addVAddr no 6: rights 6", |l| l.no(3, RIGHTS) && l.line[4] == WRITE_EXECUTE),
+    ("addVAddr no 6: rights 7", |l| l.no(3, RIGHTS) && l.line[4] == ALL_RIGHTS),
+    ("addVAddr no 6: rights 6 or 7, and no child there", |l| {
+        l.no(3, RIGHTS) && (WRITE_EXECUTE..=ALL_RIGHTS).contains(&l.line[4]) && !l.is_child(l.line[2])
+    }),
+    ("addVAddr no 6: a right not held", |l| l.no(3, RIGHTS) && l.line[4] < WRITE_EXECUTE),
     ("addVAddr ok: at the last virtual page", |l| l.ok(3) && l.line[3] == l.last()),
     ("removeVAddr no 7: lent on by the child", |l| l.no(4, HAND) && l.target().is_some_and(|m| m.accessible)),
     ("removeVAddr no 7: taken by the child", |l| l.no(4, HAND) && l.target().is_some_and(|m| !m.accessible)),
@@ -124,6 +129,10 @@ impl Look<'_> {
     fn child_at(&self, address: u32) -> Option<Partition> {
         let mapping = self.caller.mapping(self.mem, VPage::of(self.edition, address))?;
         Some(Partition::at(self.mem, mapping.page))
+    }
+
+    fn is_child(&self, address: u32) -> bool {
+        self.caller.shadow1(self.mem, VPage::of(self.edition, address)) == IS_CHILD
     }
 
     fn threes(&self) -> usize {

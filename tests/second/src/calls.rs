@@ -191,7 +191,8 @@ pub fn delete_partition(mem: &mut [u32], child: u32) -> Answer {
 pub fn add_vaddr(mem: &mut [u32], page: u32, child: u32, target: u32, rights: u32) -> Answer {
     let caller = caller_of(mem)?;
     let [page, at, target] = page_addresses(mem, [page, child, target])?;
-    require(rights <= ALL_RIGHTS, RIGHTS)?;
+    // "rights 6 and 7 with 6, at the place where numbers above 7 are refused" (document 02, L7).
+    require(rights < WRITE_EXECUTE, RIGHTS)?;
     let child = child_at(mem, &caller, at)?;
     let own = mapping_in_hand(mem, &caller, page)?;
     require(holds(own, rights), RIGHTS)?;

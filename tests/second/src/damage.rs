@@ -1,6 +1,6 @@
 //! Small guided changes to a sound memory, for comparing judgements of soundness.
 
-use crate::geometry::{Edition, PPage, VPage, EDITION};
+use crate::geometry::{Edition, PPage, VPage, EDITION, WRITE_EXECUTE};
 use crate::memory::*;
 use crate::random::Random;
 use crate::tree::{tree, Node};
@@ -28,7 +28,7 @@ pub fn damage(mem: &[u32], random: &mut Random) -> Changes {
 /// Changes of any number of words: also those that one word or two seldom make, so that each sentence is broken alone.
 pub fn wide_damage(mem: &[u32], random: &mut Random) -> Changes {
     let nodes = tree(mem);
-    let wider = match random.below(15) {
+    let wider = match random.below(16) {
         0 => second_use(mem, &nodes, random),
         1 => other_order(mem, &nodes, random),
         2 => open_descriptor(mem, &nodes, random),
@@ -38,6 +38,7 @@ pub fn wide_damage(mem: &[u32], random: &mut Random) -> Changes {
         6 => Some((0..3 + random.below(3)).flat_map(|_| damage(mem, random)).collect()),
         7 => second_mapping(mem, &nodes, random),
         8 => lost_mapping(mem, &nodes, random),
+        9 => write_and_execute(mem, &nodes, random),
         _ => None,
     };
     wider.unwrap_or_else(|| damage(mem, random))
@@ -65,17 +66,17 @@ fn other_parent(mem: &[u32], nodes: &[Node], random: &mut Random) -> Option<Chan
 fn open_descriptor(mem: &[u32], nodes: &[Node], random: &mut Random) -> Option<Changes> {
     let children: Vec<_> = nodes.iter().filter_map(|node| node.parent).collect();
     let (place, at) = random.pick(&children)?;
-    Some(opened(mem, nodes, place, at))
+    Some(raised(mem, nodes, place, at, ACCESSIBLE))
 }
 
-/// Sets the accessible bit of the page in the partition at this place of the tree and in its ancestors.
-fn opened(mem: &[u32], nodes: &[Node], mut place: usize, mut v: VPage) -> Changes {
+/// Sets these bits in the mapping of v in the partition at this place of the tree, and in that page's mappings in its ancestors.
+fn raised(mem: &[u32], nodes: &[Node], mut place: usize, mut v: VPage, bits: u32) -> Changes {
     let (mut changes, edition) = (Vec::new(), Edition::of(mem));
     loop {
         let Node { partition, parent, .. } = &nodes[place];
         let table = named_page(mem, partition.directory, v.directory_index(edition));
         let index = start(mem, table) + v.table_index(edition);
-        changes.push((index, mem[index] | ACCESSIBLE));
+        changes.push((index, mem[index] | bits));
         v = VPage::of(edition, partition.shadow2(mem, v));
         let Some((above, _)) = *parent else { break changes };
         place = above;
@@ -106,7 +107,7 @@ fn second_use(mem: &[u32], nodes: &[Node], random: &mut Random) -> Option<Change
     let edition = Edition::of(mem);
     let mut changes = vec![(pair, at.address(edition)), (pair + 1, taken.address(edition))];
     if page != taken {
-        changes.extend(opened(mem, nodes, place, dropped));
+        changes.extend(raised(mem, nodes, place, dropped, ACCESSIBLE));
     }
     Some(changes)
 }
@@ -138,6 +139,14 @@ fn second_mapping(mem: &[u32], nodes: &[Node], random: &mut Random) -> Option<Ch
 fn lost_mapping(mem: &[u32], nodes: &[Node], random: &mut Random) -> Option<Changes> {
     let (partition, v) = any_mapping(nodes, random)?;
     Some(cell(mem, partition, v).map(|index| (index, 0)).to_vec())
+}
+
+/// Below the root a page both writable and executable: in hand, lent or taken for a kernel page.
+fn write_and_execute(mem: &[u32], nodes: &[Node], random: &mut Random) -> Option<Changes> {
+    let places: Vec<_> = (1..nodes.len()).filter(|&place| !nodes[place].mappings.is_empty()).collect();
+    let place = random.pick(&places)?;
+    let (v, _) = random.pick(&nodes[place].mappings)?;
+    Some(raised(mem, nodes, place, v, 4 * WRITE_EXECUTE))
 }
 
 /// A word's index, mostly in a kernel page and mostly not 0.

@@ -25,7 +25,10 @@ pub const FIRST_THREE: u32 = 6;
 
 pub const READ: u32 = 1;
 pub const WRITE: u32 = 2;
+pub const EXECUTE: u32 = 4;
 pub const ALL_RIGHTS: u32 = 7;
+/// Write and execute together: of the rights 0 to 7 those from here on hold both.
+pub const WRITE_EXECUTE: u32 = WRITE + EXECUTE;
 
 impl Edition {
     pub fn numbered(number: u32) -> Option<Edition> {

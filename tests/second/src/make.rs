@@ -190,7 +190,8 @@ impl<Show: FnMut(&[u32], Answer, &[u32])> Maker<'_, Show> {
                 let (hand, taken) = (self.hand(0), self.random.once_in(12));
                 let some = if self.random.once_in(3) { 0 } else { READ + WRITE };
                 let (page, any) = (self.mostly(&hand), self.random.below(9) as u32);
-                let rights = if self.random.once_in(4) { any } else { self.rights(page) & (any | some) };
+                let kind = if self.random.once_in(3) { READ + EXECUTE } else { READ + WRITE };
+                let rights = if self.random.once_in(4) { any } else { self.rights(page) & (any | some) & kind };
                 vec![3, page, child, self.target(child, taken), rights]
             }
             4 | 5 | 7 => {
@@ -286,7 +287,7 @@ impl<Show: FnMut(&[u32], Answer, &[u32])> Maker<'_, Show> {
             }
             for (page, slot) in pages.into_iter().zip(slots) {
                 let fewer = loose && self.random.once_in(3) || self.random.once_in(40);
-                let some = if fewer { self.random.below(8) as u32 } else { ALL_RIGHTS };
+                let some = if fewer { self.random.below(6) as u32 } else { READ + WRITE };
                 self.say(&[3, page, a, slot, self.rights(page) & some]);
             }
             self.say(&[9, a]);

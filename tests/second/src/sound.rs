@@ -1,4 +1,4 @@
-//! When memory is sound: nine sentences, judged in order over every partition of the tree.
+//! When memory is sound: the sentences by number, judged in order over every partition of the tree.
 
 use crate::calls::fill_formatted;
 use crate::geometry::*;
@@ -11,30 +11,39 @@ struct Judged<'a> {
     tree: Vec<Node>,
 }
 
-const SENTENCES: [fn(&Judged) -> bool; 9] = [
-    forms,
-    root_as_formatted,
-    threes_listed_once,
-    children_agree,
-    tree_bounded,
-    lent_pages_match,
-    kernel_pages_closed,
-    one_use_each,
-    absent_words_zero,
+type Sentence = (u32, fn(&Judged) -> bool);
+
+/// Those of document 01, of which 10 and 11 ask nothing, and that of document 02, L7.
+const SENTENCES: [Sentence; 10] = [
+    (1, forms),
+    (2, root_as_formatted),
+    (3, threes_listed_once),
+    (4, children_agree),
+    (5, tree_bounded),
+    (6, lent_pages_match),
+    (7, kernel_pages_closed),
+    (8, one_use_each),
+    (9, absent_words_zero),
+    (12, never_write_and_execute),
 ];
 
-/// Ok, or the number of the first broken sentence, from 1.
+/// Ok, or the number of the first broken sentence.
 pub fn sound(mem: &[u32]) -> Result<(), u32> {
     let sizes = Sizes::of(mem).ok_or(1u32)?;
     let judged = Judged { mem, sizes, tree: tree(mem) };
-    SENTENCES.iter().zip(1..).try_for_each(|(holds, number)| holds(&judged).then_some(()).ok_or(number))
+    SENTENCES.iter().try_for_each(|&(number, holds)| holds(&judged).then_some(()).ok_or(number))
+}
+
+/// The numbers of all sentences.
+pub fn numbers() -> impl Iterator<Item = u32> {
+    SENTENCES.iter().map(|&(number, _)| number)
 }
 
 /// The numbers of all broken sentences.
 pub fn broken(mem: &[u32]) -> Vec<u32> {
     let Some(sizes) = Sizes::of(mem) else { return vec![1] };
     let judged = Judged { mem, sizes, tree: tree(mem) };
-    SENTENCES.iter().zip(1..).filter(|(holds, _)| !holds(&judged)).map(|(_, number)| number).collect()
+    SENTENCES.iter().filter(|(_, holds)| !holds(&judged)).map(|&(number, _)| number).collect()
 }
 
 impl Judged<'_> {
@@ -225,4 +234,10 @@ fn absent_words_zero(j: &Judged) -> bool {
     j.each(|p| {
         p.tabled(j.mem).all(|(_, [entry, shadow1, shadow2])| entry & PRESENT != 0 || shadow1 == 0 && shadow2 == 0)
     })
+}
+
+// 12. Document 02, L7: "for every mapping, accessible or not, in every partition but the root", not both writable and executable.
+fn never_write_and_execute(j: &Judged) -> bool {
+    let both = |m: &Mapping| m.rights & WRITE != 0 && m.rights & EXECUTE != 0;
+    j.tree[1..].iter().all(|node| !node.mappings.iter().any(|(_, mapping)| both(mapping)))
 }

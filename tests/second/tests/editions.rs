@@ -118,9 +118,9 @@ fn the_last_page_mapped_and_in_a_chain() {
     let child = Partition::at(&mem, PPage(9));
     assert!(child.has_three(&mem, 1_023) && child.three_count(&mem) == 1);
     for k in 0..12 {
-        pass(&mut mem, &[&[3, at(9 + k), at(1), LAST - at(k), 7]]);
+        pass(&mut mem, &[&[3, at(9 + k), at(1), LAST - at(k), 3]]);
     }
-    assert_eq!(say(&mut mem, &[3, at(21), at(1), LAST, 7]), Err(9));
+    assert_eq!(say(&mut mem, &[3, at(21), at(1), LAST, 3]), Err(9));
     pass(&mut mem, &[&[9, at(1)], &[12, u32::MAX - 3, 77]]);
     assert_eq!(say(&mut mem, &[11, u32::MAX - 3]), Ok(77));
     // A grandchild whose list is the last page; then one whose shadow 1 table is.

@@ -11,6 +11,7 @@ pub const PRESENT: u32 = 1;
 pub const ACCESSIBLE: u32 = 2;
 pub const READ: u32 = 4;
 pub const WRITE: u32 = 8;
+pub const WRITE_EXECUTE: u32 = 24;
 /// The three rights of a page table word.
 pub const RIGHTS_BITS: u32 = 28;
 

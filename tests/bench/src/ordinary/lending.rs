@@ -7,7 +7,7 @@ use super::refusal::*;
 
 pub fn add_vaddr<const W: usize>(m: &mut Memory<W>, page: u32, child: u32, target: u32, rights: u32) -> Answer {
     let [page, at, target] = pages_at([page, child, target])?;
-    require(rights <= 7, RIGHTS)?;
+    require(rights < 6, RIGHTS)?;
     let caller = m.caller();
     let child = caller.child(m, at)?;
     let word = caller.in_hand(m, page)?;

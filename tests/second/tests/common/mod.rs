@@ -44,7 +44,7 @@ pub fn down(mem: &mut [u32], base: u32, pages: u32) {
     pass(mem, &[&[1, at(0), at(1), at(2), at(3), at(4)]]);
     assert_eq!(furnish(mem, base, LOFT, [at(5), at(6), at(7)]), Ok(0));
     for k in 8..pages {
-        pass(mem, &[&[3, at(k), base, LOFT + 256 * (k - 8), 7]]);
+        pass(mem, &[&[3, at(k), base, LOFT + 256 * (k - 8), 3]]);
     }
     pass(mem, &[&[9, base]]);
 }

@@ -37,7 +37,7 @@ impl<'a, const W: usize> Row<'a, '_, W> {
         Some(())
     }
 
-    /// The root maps the flat pages; each mapping of a child comes from its parent, with no right added.
+    /// The root maps the flat pages; each mapping of a child comes from its parent, with no right added, and is not both writable and executable.
     fn origin(&self, walk: &Walk<W>, v: VPage<W>, word: u32, above: u32) -> Judged {
         let Some(parent) = self.parent else {
             let page = walk.sizes.first_flat().0 + v.0 - 1;
@@ -45,6 +45,7 @@ impl<'a, const W: usize> Row<'a, '_, W> {
             return sound(flat && above == 0);
         };
         let (lender, lent_to) = parent.lookup(above)?;
+        sound(word & WRITE_EXECUTE != WRITE_EXECUTE)?;
         sound((word ^ lender) & !RIGHTS_BITS == 0 && word & !lender == 0 && lent_to == self.own.place)
     }
 
