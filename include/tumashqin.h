@@ -37,7 +37,7 @@ enum tumashqin_refusal {
     TUMASHQIN_ADDRESS = 3,     /* an address on page 0, past the edition's last, or not a multiple of 256 (load, store: of 4) */
     TUMASHQIN_TWICE = 4,       /* two of the five equal */
     TUMASHQIN_CHILD = 5,       /* no child of the caller has its descriptor there */
-    TUMASHQIN_RIGHTS = 6,      /* rights above 7, or a right that is not held */
+    TUMASHQIN_RIGHTS = 6,      /* add_vaddr: write and execute together, or a number above 7; any call: a right that is not held */
     TUMASHQIN_HAND = 7,        /* page not in the caller's hand (remove_vaddr: not in the child's) */
     TUMASHQIN_TABLE = 8,       /* the child has no three of tables for the target */
     TUMASHQIN_TAKEN = 9,       /* target mapped, or its three exists (prepare) */
@@ -85,7 +85,7 @@ uint64_t tumashqin_create_partition(uint32_t *words, size_t length, uint32_t des
 uint64_t tumashqin_delete_partition(uint32_t *words, size_t length, uint32_t child);
 
 /* 3. Lends a page to a child: maps it at target there, with these rights.
- * Refusals: DAMAGED, ADDRESS, RIGHTS (above 7), CHILD, HAND, RIGHTS (not held), TABLE, TAKEN. */
+ * Write and execute can't be lent together. Refusals: DAMAGED, ADDRESS, RIGHTS (6, 7 or above), CHILD, HAND, RIGHTS (not held), TABLE, TAKEN. */
 uint64_t tumashqin_add_vaddr(uint32_t *words, size_t length, uint32_t page, uint32_t child, uint32_t target, uint32_t rights);
 
 /* 4. Takes a lent page back from a child. Its word is the page's address in the caller.

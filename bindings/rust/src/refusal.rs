@@ -15,7 +15,7 @@ pub enum Refusal {
     Twice,
     /// The caller's shadow 1 word there isn't 1: no child's descriptor.
     Child,
-    /// Number above 7, or right not held.
+    /// Write and execute together or a number above 7 (add_vaddr), or right not held.
     Rights,
     /// Page not in the caller's hand (remove_vaddr: not in the child's).
     Hand,
@@ -70,7 +70,7 @@ impl Refusal {
             Address => "bad address",
             Twice => "two of the five addresses are equal",
             Child => "no child there",
-            Rights => "a right that is not held, or no such right",
+            Rights => "a right that is not held, no such right, or write and execute together",
             Hand => "page not in hand",
             Table => "no tables for the target",
             Taken => "target taken",

@@ -1,5 +1,5 @@
 //! Refusals: their numbers, and that a call which refuses changes no word.
-use tumashqin::{verdict, Edition, Memory, Refusal, PAGE_WORDS};
+use tumashqin::{verdict, Edition, Memory, Refusal, EXECUTE, PAGE_WORDS, READ, WRITE};
 
 /// What each of the twelve calls answers, with arguments that a sound memory would take.
 fn all_calls(memory: &mut Memory) -> [Result<u32, Refusal>; 12] {
@@ -36,6 +36,27 @@ fn damaged_memory_changes_by_no_call() {
     Memory::format(&mut words, Edition::Pages256).unwrap();
     assert_eq!(verdict(&words), Ok(()));
     words[0] = 21;
+    let before = words;
+    assert_eq!(verdict(&words), Err(Refusal::Damaged));
+    assert_eq!(all_calls(&mut Memory::over(&mut words)), [Err(Refusal::Damaged); 12]);
+    assert_eq!(words, before);
+}
+
+#[test]
+fn no_child_has_a_page_to_write_and_execute() {
+    let mut words = [0; 20 * PAGE_WORDS];
+    let mut memory = Memory::format(&mut words, Edition::Pages256).unwrap();
+    memory.create_partition([256, 512, 768, 1024, 1280]).unwrap();
+    memory.store(1536, 1792).unwrap();
+    memory.store(1792, 2048).unwrap();
+    memory.prepare(256, 4096, 1536).unwrap();
+    for rights in [WRITE | EXECUTE, READ | WRITE | EXECUTE] {
+        assert_eq!(memory.add_vaddr(2304, 256, 4096, rights), Err(Refusal::Rights));
+        assert_eq!(memory.add_vaddr(2304, 512, 4096, rights), Err(Refusal::Rights));
+    }
+    assert_eq!(memory.add_vaddr(2304, 256, 4096, READ | EXECUTE), Ok(0));
+    // An older version lent both: the child's page table is page 14, and the page stands at its place 16.
+    words[14 * PAGE_WORDS + 16] |= 4 * WRITE;
     let before = words;
     assert_eq!(verdict(&words), Err(Refusal::Damaged));
     assert_eq!(all_calls(&mut Memory::over(&mut words)), [Err(Refusal::Damaged); 12]);
