@@ -11,8 +11,8 @@
  * Threads. One call at a time on the same words: while a call runs, no other thread writes its slices, nor reads those that it writes.
  * Calls on different memories are independent.
  *
- * Stack. No call takes 4 KiB. The most measured is 3,408 bytes, by delete_partition on a tree eight levels deep, so that 688 are left; a level less takes
- * 224 bytes less. This is measured on the archive, for every call at every depth, at both editions and on damaged memory (tests/bench), and not proved.
+ * Stack. No call takes 4 KiB. The most measured is 3,848 bytes, by delete_partition on a tree eight levels deep, so that 248 are left; a level less takes
+ * 256 bytes less. This is measured on the archive, for every call at every depth, at both editions and on damaged memory (tests/bench), and not proved.
  *
  * Memory. Format chooses the edition: pages of 256 bytes (64 words), 16 to 256 of them, and addresses below 2^20; or pages of 4,096 bytes (1,024 words), 16
  * to 4,096 of them, and any 32-bit address. The memory's header names it, and every other call goes by that; what is said of 256 bytes below is said of 4,096
@@ -85,7 +85,8 @@ uint64_t tumashqin_create_partition(uint32_t *words, size_t length, uint32_t des
 uint64_t tumashqin_delete_partition(uint32_t *words, size_t length, uint32_t child);
 
 /* 3. Lends a page to a child: maps it at target there, with these rights.
- * Write and execute can't be lent together. Refusals: DAMAGED, ADDRESS, RIGHTS (6, 7 or above), CHILD, HAND, RIGHTS (not held), TABLE, TAKEN. */
+ * Write and execute can't be lent together: rights are 0 to 5. Memory in which an older version lent both is DAMAGED.
+ * Refusals: DAMAGED, ADDRESS, RIGHTS (6 or above), CHILD, HAND, RIGHTS (not held), TABLE, TAKEN. */
 uint64_t tumashqin_add_vaddr(uint32_t *words, size_t length, uint32_t page, uint32_t child, uint32_t target, uint32_t rights);
 
 /* 4. Takes a lent page back from a child. Its word is the page's address in the caller.

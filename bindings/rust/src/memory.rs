@@ -76,8 +76,9 @@ impl<'a> Memory<'a> {
 
     /// Call 3: maps page at target in the child, accessible, with rights ([`READ`], [`WRITE`], [`EXECUTE`], added).
     ///
-    /// Write and execute can't be lent together.
-    /// Refusals: Damaged, Address, Rights (6, 7 or above), Child, Hand, Rights (not held), Table, Taken.
+    /// Write and execute can't be lent together. Memory in which an older version lent both is damaged.
+    ///
+    /// Refusals: Damaged, Address, Rights (6 or above), Child, Hand, Rights (not held), Table, Taken.
     pub fn add_vaddr(&mut self, page: u32, child: u32, target: u32, rights: u32) -> Result<u32, Refusal> {
         let (words, length) = self.parts();
         answered(unsafe { raw::tumashqin_add_vaddr(words, length, page, child, target, rights) })

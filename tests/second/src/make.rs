@@ -190,6 +190,7 @@ impl<Show: FnMut(&[u32], Answer, &[u32])> Maker<'_, Show> {
                 let (hand, taken) = (self.hand(0), self.random.once_in(12));
                 let some = if self.random.once_in(3) { 0 } else { READ + WRITE };
                 let (page, any) = (self.mostly(&hand), self.random.below(9) as u32);
+                // Write and execute may not be lent together.
                 let kind = if self.random.once_in(3) { READ + EXECUTE } else { READ + WRITE };
                 let rights = if self.random.once_in(4) { any } else { self.rights(page) & (any | some) & kind };
                 vec![3, page, child, self.target(child, taken), rights]
