@@ -11,6 +11,7 @@ use Rattle.memory.specs.Geometry.{pageWords, pageBytes, addressEnd, address, pa
 use Rattle.memory.specs.Entry.{accessible}
 use Rattle.memory.specs.Partition.{current, directory, tableWord, mapping}
 use Rattle.memory.specs.Tree.{Virtual}
+use Rattle.memory.specs.Uses.{KernelPage}
 use Rattle.memory.specs.Sound.{Sound}
 use Rattle.memory.proofs.Geometry.{page-address}
 use Rattle.soundness.proofs.Whole.{mapped-has, sound?}
@@ -21,7 +22,6 @@ use Rattle.rules.specs.Conditions.{damaged, badAddress, unmapped, inaccessible}
 use Rattle.rules.specs.Refusals.{refusals}
 use Rattle.rules.specs.Calls.{answer}
 use Rattle.rules.proofs.Rows.{First, on, at, answer-no}
-use Rattle.claim.specs.Kept.{KernelPage}
 use Rattle.claim.proofs.Closed.{closed}
 
 first-false : (s t u : Bool) → (s || t || u) ≡ false → s ≡ false

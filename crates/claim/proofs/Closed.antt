@@ -9,10 +9,9 @@ use Rattle.memory.specs.Geometry.{pageOf, mostDepth}
 use Rattle.memory.specs.Entry.{accessible}
 use Rattle.memory.specs.Partition.{pages, mapping, lent}
 use Rattle.memory.specs.Tree.{Has, Child, InTree, child}
-use Rattle.memory.specs.Uses.{Way, inHand, Use}
+use Rattle.memory.specs.Uses.{Way, inHand, KernelWay, isFive, isListed, Use, KernelPage, header, serves}
 use Rattle.memory.specs.Sound.{Sound}
 use Rattle.soundness.proofs.Whole.{flat, small}
-use Rattle.claim.specs.Kept.{KernelWay, isFive, isListed, KernelPage, header, serves}
 
 not-hand : {w : Way} (v : ℕ) → KernelWay w → w ≢ inHand v
 not-hand v isFive e = let z : _≡_ {A = ℕ} 0 1 = cc in omega arith

@@ -7,17 +7,12 @@ use Rattle.memory.specs.Geometry.{pageOf, threesFor, flatPages, mostDepth}
 use Rattle.memory.specs.Entry.{accessible}
 use Rattle.memory.specs.Partition.{current, mapping}
 use Rattle.memory.specs.Tree.{Has, Child, InTree}
-use Rattle.memory.specs.Uses.{Way, five, listed, Use}
+use Rattle.memory.specs.Uses.{Use, KernelPage}
 use Rattle.memory.specs.Sound.{WriteAndExecute, Sound}
 use Rattle.memory.specs.Counts.{inHandCount, kernelCount}
 use Rattle.rules.specs.Row.{no}
 use Rattle.rules.specs.Call.{load, store}
 use Rattle.rules.specs.Calls.{answer}
-
--- a use as a kernel page: one of the five, or a page of the list
-pub data KernelWay : Way → Type 0 where
-  isFive : {j : ℕ} → KernelWay (five j)
-  isListed : {j : ℕ} → KernelWay (listed j)
 
 module _ (b : ℕ) (m : List ℕ) where
   -- partition d maps page p
@@ -27,11 +22,6 @@ module _ (b : ℕ) (m : List ℕ) where
     pub present : mapping b m d at ≢ 0
     pub page : pageOf b (mapping b m d at) ≡ p
 
-  -- "Kernel pages are page 0 and all descriptors, directories, shadows, lists and tables."
-  pub data KernelPage : ℕ → Type 0 where
-    header : KernelPage 0
-    serves : {p : ℕ} (u : Use b m p) → KernelWay (u .way) → KernelPage p
-
   -- n is the number of pages by the last format that passed
   pub record Kept (n : ℕ) : Type 0 where
     pub sound : Sound b m
@@ -40,10 +30,11 @@ module _ (b : ℕ) (m : List ℕ) where
     -- "siblings are those with the same parent": no two of them share a page
     pub siblings : (k d u v c e : ℕ) → InTree b m k d → Child b m d u c → Child b m d v e → c ≢ e → (p : ℕ) → Maps c p → Maps e p → ⊥
     -- "No kernel page is accessible in any of them."
-    pub closed : (k d v : ℕ) → InTree b m k d → Has b m d v → mapping b m d v ≢ 0 → KernelPage (pageOf b (mapping b m d v)) → accessible (mapping b m d v) ≡ 0
+    pub closed : (k d v : ℕ) → InTree b m k d → Has b m d v → mapping b m d v ≢ 0 → KernelPage b m (pageOf b (mapping b m d v))
+        → accessible (mapping b m d v) ≡ 0
     -- so the current partition can neither load nor store a kernel page: it is refused by some number
-    pub noLoad : (a : ℕ) → KernelPage (pageOf b (mapping b m (current b m) a)) → (r : ℕ) × (answer b m (load a) ≡ no r)
-    pub noStore : (a x : ℕ) → KernelPage (pageOf b (mapping b m (current b m) a)) → (r : ℕ) × (answer b m (store a x) ≡ no r)
+    pub noLoad : (a : ℕ) → KernelPage b m (pageOf b (mapping b m (current b m) a)) → (r : ℕ) × (answer b m (load a) ≡ no r)
+    pub noStore : (a x : ℕ) → KernelPage b m (pageOf b (mapping b m (current b m) a)) → (r : ℕ) × (answer b m (store a x) ≡ no r)
     -- "no add-on hold a page both writable and executable" (document 02, L7): no partition but the root, whose descriptor is page 1, maps a page so
     pub neverBoth : (k d v : ℕ) → InTree b m k d → d ≢ 1 → Has b m d v → ¬ WriteAndExecute b m d v
     -- "The pages handed to the root are 6+3T to N−1, F of them."

@@ -17,6 +17,11 @@ pub data Way : Type 0 where
   listed : ℕ → Way
   inHand : ℕ → Way
 
+-- a use as a kernel page: one of the five, or a page of the list
+pub data KernelWay : Way → Type 0 where
+  isFive : {j : ℕ} → KernelWay (five j)
+  isListed : {j : ℕ} → KernelWay (listed j)
+
 module _ (b : ℕ) (m : List ℕ) where
   abbrev pub fivePages : ℕ → List ℕ
   fivePages d = d ∷ directory b m d ∷ shadow1 b m d ∷ shadow2 b m d ∷ list b m d ∷ []
@@ -35,3 +40,8 @@ module _ (b : ℕ) (m : List ℕ) where
     pub way : Way
     pub tree : InTree b m depth part
     pub used : UsedBy part way p
+
+  -- "Kernel pages are page 0 and all descriptors, directories, shadows, lists and tables."
+  pub data KernelPage : ℕ → Type 0 where
+    header : KernelPage 0
+    serves : {p : ℕ} (u : Use p) → KernelWay (u .way) → KernelPage p
