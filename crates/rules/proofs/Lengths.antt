@@ -1,13 +1,13 @@
 -- No call changes the length of the memory, on any memory. Assumes nothing.
 use mathlib.Core.Path.{_≡_, refl, sym, _∙_}
 use mathlib.Core.List.{List, [], _∷_}
+use mathlib.Core.Bool.{Bool, true, false}
 use Prim.Native.Nat.{ℕ, zero, suc}
 use lib.Dec.{eqb}
 use lib.ListN.{length, length-set}
 use Rattle.memory.specs.Edition.{width}
-use Rattle.memory.specs.Geometry.{address}
-use Rattle.memory.specs.Words.{fill}
-use Rattle.memory.specs.Entry.{accessible}
+use Rattle.memory.specs.Geometry.{address, pageOf}
+use Rattle.memory.specs.Words.{fill, wipe}
 use Rattle.memory.specs.Format.{format}
 use Rattle.memory.specs.Partition.{parent, lent, mapping}
 use Rattle.memory.proofs.Overwrite.{length-overwrite}
@@ -17,7 +17,7 @@ use Rattle.memory.proofs.Format.{length-tabulate}
 use Rattle.rules.specs.Refusal.{SIZE}
 use Rattle.rules.specs.Row.{pass}
 use Rattle.rules.specs.Call.{Call, formatAll, createPartition, deletePartition, addVAddr, removeVAddr, pageCount, prepare, collect, mappedInChild, enter, leave, load, store}
-use Rattle.rules.specs.Moves.{mark, takePage, returnPage, takeAll, returnAll}
+use Rattle.rules.specs.Moves.{wiped, mark, takePage, returnPage, takeAll, returnAll}
 use Rattle.rules.specs.Conditions.{unfit}
 use Rattle.rules.specs.Refusals.{refusals, refusal}
 use Rattle.rules.specs.Effects.{create, release, releaseAll, delete, add, remove, prepareThree, collectThree, effect}
@@ -37,9 +37,12 @@ module _ (b : ℕ) where
   unfolding takePage
   length-takePage m d v = length-mark _ _ _ d v ∙ length-wipe b m _
 
-  pub length-returnPage : (m : List ℕ) (d v : ℕ) → length (returnPage b m d v) ≡ length m
+  pub length-returnPage : (k : Bool) (m : List ℕ) (d v : ℕ) → length (returnPage b k m d v) ≡ length m
   unfolding returnPage
-  length-returnPage m d v = length-mark _ _ _ d v ∙ length-wipe b m _
+  length-returnPage true m d v = length-mark _ _ _ d v ∙ length-wipe b m _
+  length-returnPage false m d v =
+      let w = mapping b m d v in
+      length-cond (wiped false w) (wipe b m (pageOf b w)) m (length m) (length-wipe b m (pageOf b w)) refl
 
   pub length-takeAll : (m : List ℕ) (d : ℕ) (vs : List ℕ) → length (takeAll b m d vs) ≡ length m
   length-takeAll m d [] = refl
@@ -47,11 +50,10 @@ module _ (b : ℕ) where
 
   pub length-returnAll : (m : List ℕ) (d : ℕ) (vs : List ℕ) → length (returnAll b m d vs) ≡ length m
   length-returnAll m d [] = refl
-  length-returnAll m d (v ∷ vs) = length-returnAll _ d vs ∙ length-returnPage m d v
+  length-returnAll m d (v ∷ vs) = length-returnAll _ d vs ∙ length-returnPage true m d v
 
   length-release : (m : List ℕ) (d v : ℕ) → length (release b m d v) ≡ length m
-  length-release m d v =
-      length-cond (eqb (accessible (mapping b m d v)) 0) _ _ _ (length-returnPage _ d v ∙ length-putTableWord b m _ _ 0) (length-putTableWord b m _ _ 0)
+  length-release m d v = length-returnPage _ _ d v ∙ length-putTableWord b m _ _ 0
 
   length-releaseAll : (n i : ℕ) (m : List ℕ) (d c : ℕ) → length (releaseAll b n i m d c) ≡ length m
   unfolding releaseAll

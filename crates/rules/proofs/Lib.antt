@@ -5,6 +5,7 @@ pub mod Lengths
 pub mod Marks
 pub mod Turns
 pub mod Releases
+pub mod Accessible
 pub mod model
 pub mod sound
 pub mod steps

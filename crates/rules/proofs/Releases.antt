@@ -14,13 +14,13 @@ use lib.Pow.{pow-mono, high, low}
 use lib.ListN.{length, getD, drop, length-take, drop-of-length-le, List·getD-eq-default}
 use lib.Seq.{drop-cons, getD-take, getD-drop}
 use Rattle.walk.specs.Lists.{count, count-at}
-use Rattle.memory.specs.Geometry.{pageWords, address, pageOf}
-use Rattle.memory.specs.Words.{start, word, page}
-use Rattle.memory.specs.Entry.{accessible}
-use Rattle.memory.specs.Partition.{shadow1, tableWord, lent, mapping, setLent}
+use Rattle.memory.specs.Geometry.{pageWords, address, pageOf, mostDepth}
+use Rattle.memory.specs.Words.{start, word, page, wipe}
+use Rattle.memory.specs.Entry.{writeRight, holds}
+use Rattle.memory.specs.Partition.{shadow1, tableWord, mapping, lent}
 use Rattle.memory.proofs.Geometry.{bytes-pos, addressEnd-is, page-address}
 use Rattle.memory.proofs.Widths.{words-most}
-use Rattle.rules.specs.Moves.{takePage, returnPage, takeAll, returnAll}
+use Rattle.rules.specs.Moves.{mark, takePage, returnPage, takeAll, returnAll}
 use Rattle.rules.specs.Effects.{release, releaseAll}
 
 module _ (b : ℕ) (m : List ℕ) (d : ℕ) (vs : List ℕ) (i : ℕ) where
@@ -30,18 +30,23 @@ module _ (b : ℕ) (m : List ℕ) (d : ℕ) (vs : List ℕ) (i : ℕ) where
   pub takeAll-end : length vs ≤ i → takeAll b m d (drop i vs) ≡ m
   takeAll-end h = rw (drop-of-length-le vs h)
 
-  pub returnAll-more : i < length vs → returnAll b m d (drop i vs) ≡ returnAll b (returnPage b m d (getD vs i 0)) d (drop (i + 1) vs)
+  pub returnAll-more : i < length vs → returnAll b m d (drop i vs) ≡ returnAll b (returnPage b true m d (getD vs i 0)) d (drop (i + 1) vs)
   returnAll-more h = rw (add-one, drop-cons vs i 0)
 
   pub returnAll-end : length vs ≤ i → returnAll b m d (drop i vs) ≡ m
   returnAll-end h = rw (drop-of-length-le vs h)
 
 module _ (b : ℕ) (m : List ℕ) (d v : ℕ) where
-  pub release-shut : accessible (mapping b m d v) ≡ 0 → release b m d v ≡ returnPage b (setLent b m d v 0) d v
-  release-shut h = simp (eq-eqb _ _ h)
+  -- a kernel page
+  pub return-kernel : {k : Bool} → k ≡ true → returnPage b k m d v ≡ mark b (suc mostDepth) 1 (wipe b m (pageOf b (mapping b m d v))) d v
+  unfolding returnPage
+  return-kernel e = rw e refl
 
-  pub release-open : accessible (mapping b m d v) ≢ 0 → release b m d v ≡ setLent b m d v 0
-  release-open h = simp (ne-eqb _ _ h)
+  -- another page, by whether the caller holds write
+  pub return-other : {k t : Bool} → k ≡ false → holds writeRight (mapping b m d v) ≡ t
+      → returnPage b k m d v ≡ cond t (wipe b m (pageOf b (mapping b m d v))) m
+  unfolding returnPage
+  return-other e h = rw e (ap (λ (t : Bool). cond t (wipe b m (pageOf b (mapping b m d v))) m) h)
 
   -- one turn, for the child at c
   abbrev pub releasing : ℕ → List ℕ

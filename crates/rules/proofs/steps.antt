@@ -33,6 +33,7 @@ pub mod KeepMove
 pub mod KeepAdd
 pub mod KeepCreate
 pub mod KeepDelete
+pub mod Deleted
 pub mod Step
 pub mod MappedInChild
 pub mod ThreeHeld

@@ -41,11 +41,9 @@ module _ (b : ℕ) where
   abbrev pub kernelAddresses : List ℕ → ℕ → List ℕ
   kernelAddresses m k = evens (take 10 (page b m k)) ++ evens (listed m k)
 
-  -- a lent page is the caller's again; "every lent page that is inaccessible" is returned, "other lent pages keep their words"
+  -- a page lent to the child is the caller's again, and is returned; the inaccessible ones were kernel pages, of partitions below the child
   abbrev pub release : List ℕ → ℕ → ℕ → List ℕ
-  release m d v =
-      let m₁ = setLent b m d v 0 in
-      cond (eqb (accessible (mapping b m d v)) 0) (returnPage b m₁ d v) m₁
+  release m d v = returnPage b (eqb (accessible (mapping b m d v)) 0) (setLent b m d v 0) d v
 
   -- all pages lent to the child at c, among n virtual pages from page i on
   unfoldable pub releaseAll : ℕ → ℕ → List ℕ → ℕ → ℕ → List ℕ
@@ -53,8 +51,8 @@ module _ (b : ℕ) where
   releaseAll (suc n) i m d c =
       releaseAll n (suc i) (cond (eqb (lent b m d (address b i)) c) (release m d (address b i)) m) d c
 
-  -- 2: "clears shadow 1 of descriptor and all pages lent to it; returns its kernel pages and every lent page that is inaccessible". The child's
-  -- words are read before they are wiped. The kernel pages of partitions below the child are lent pages that are inaccessible.
+  -- 2: "clears shadow 1 of descriptor and all pages lent to it; returns its kernel pages" and "every page lent to the child" (document 02, L3). The
+  -- child's words are read before they are wiped, and of each lent page whether it was a kernel page before it is set accessible.
   unfoldable pub delete : List ℕ → ℕ → ℕ → List ℕ
   delete m d c =
       let kernel = kernelAddresses m (pageOf b (mapping b m d c)) in

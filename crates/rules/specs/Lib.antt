@@ -10,6 +10,7 @@ pub mod Editions
 pub mod Permitted
 pub mod SameChain
 pub mod PageTold
+pub mod Deleted
 pub mod Bytes
 pub mod Record
 pub mod Replay

@@ -10,7 +10,7 @@ use Rattle.rules.proofs.model.Base.{eqd, both, pick, pick-yes, pick-no}
 use Rattle.rules.proofs.model.Words.{W, word, put, join, idx, off, put-sized, word-put-same, word-put-other, off-lt, join-cut, idx-join, off-join}
 use Rattle.rules.proofs.model.Abs.{Kind, pt, s1, s2, Role, header, hand, blank, desc, root, lst, tab, Hop, Three, threeAt, Abs, Tabs, WF, Cells, Encodes, EncodesC, isHand, cell, descList, headList, listPairs, listList, roleWord}
 use Rattle.rules.proofs.model.Read.{putAt, put-there, entry-three, kernel-lt}
-use Rattle.rules.proofs.model.Facts.{some-inj}
+use Rattle.rules.proofs.model.Facts.{some-inj, differ}
 
 kn : Kind → ℕ
 kn pt = 0
@@ -174,6 +174,15 @@ module _ {b : ℕ} (wide : 6 ≤ b) where
   set-cell N fl f A wf m C en k d v t l e x =
       let y = entry-three wide N fl A wf f m C en k d v t l e in
       rw (put-there b m k d v x (y .3), y .0) (put-cell wide N f A (tab-one wide N fl A wf) m C k d v (t .page k) x (y .1) (kernel-lt wide N fl A wf (t .page k) (ap isHand (y .1))) en)
+
+  -- pages in hand keep their words
+  pub set-hand : (N : ℕ) (fl : ℕ → Option ℕ) (f : List ℕ) (A : Abs) (wf : WF b N fl A) (m : List ℕ) (C : Cells) → EncodesC b N f m A C
+      → (k : Kind) (d v : ℕ) (t : Three) → A .role d ≡ desc → threeAt (idx b v) (A .threes d) ≡ some t
+      → (x q j : ℕ) → A .role q ≡ hand → j < W b → word b (putAt b m k d v x) q j ≡ word b m q j
+  set-hand N fl f A wf m C en k d v t l e x q j h n =
+      let y = entry-three wide N fl A wf f m C en k d v t l e in
+      ap (λ (z : List ℕ). word b z q j) (put-there b m k d v x (y .3))
+      ∙ word-put-other wide m _ (off b v) x q j (off-lt wide v) n (λ z. differ (sym h ∙ ap (A .role) (z .0 ∙ y .0) ∙ y .1) (omega arith))
 
   -- the words outside tables show chains of kernel pages only
   module _ (N : ℕ) (fl : ℕ → Option ℕ) (f : List ℕ) (A : Abs) (wf : WF b N fl A) (ch : ℕ → List Hop) (mp : ℕ → ℕ → Option ℕ)

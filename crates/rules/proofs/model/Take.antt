@@ -1,12 +1,12 @@
 -- A page is taken from a partition's hand, or given back to it.
 use mathlib.Core.Path.{_≡_, refl, sym, ap, _∙_}
 use mathlib.Core.Logic.{_≢_}
-use mathlib.Core.Bool.{true, false}
+use mathlib.Core.Bool.{true, false, cond}
 use mathlib.Core.Option.{Option, none, some}
 use mathlib.Core.List.{List, _∷_}
 use Prim.Native.Nat.{ℕ, _≤_, _<_}
 use Rattle.memory.proofs.Geometry.{page-address}
-use Rattle.rules.specs.Moves.{takePage, returnPage}
+use Rattle.rules.specs.Moves.{wiped, takePage, returnPage}
 use Rattle.rules.proofs.model.Base.{upd-other}
 use Rattle.rules.proofs.model.Words.{W, addr, idx, pageOf, accOf, pageOf-pte, wipe}
 use Rattle.rules.proofs.model.Abs.{pt, s1, Role, hand, blank, desc, Hop, Abs, headV, seek, Good, WF, Encodes, cell, seenWord}
@@ -33,9 +33,15 @@ module _ (b : ℕ) (m : List ℕ) (o v : ℕ) where
   unfolding takePage walk addr wipe pageOf entryAt rootPage
   take-is = rw (page-address b v) refl
 
-  pub give-is : returnPage b m o (addr b v) ≡ walk b true 9 (wipe b m (pageOf b (entryAt b m pt o v))) o v
+  -- a kernel page
+  pub give-is : returnPage b true m o (addr b v) ≡ walk b true 9 (wipe b m (pageOf b (entryAt b m pt o v))) o v
   unfolding returnPage walk addr wipe pageOf entryAt rootPage
   give-is = rw (page-address b v) refl
+
+  -- a page that was no kernel page
+  pub keep-is : returnPage b false m o (addr b v) ≡ cond (wiped false (entryAt b m pt o v)) (wipe b m (pageOf b (entryAt b m pt o v))) m
+  unfolding returnPage addr wipe pageOf entryAt rootPage
+  keep-is = rw (page-address b v) refl
 
 module _ {b : ℕ} (wide : 6 ≤ b) where
   module _ (N : ℕ) (fl : ℕ → Option ℕ) (f : List ℕ) (A : Abs) (wf : WF b N fl A) where
@@ -59,7 +65,7 @@ module _ {b : ℕ} (wide : 6 ≤ b) where
 
     -- a blank page is o's again
     pub give-one : (m : List ℕ) (o p : ℕ) → Encodes b N f m A → A .role o ≡ desc → A .role p ≡ blank → (x : First A o p)
-        → WF b N fl (setRole A p hand) × Encodes b N f (returnPage b m o (addr b (x .hop .vp))) (setRole A p hand)
+        → WF b N fl (setRole A p hand) × Encodes b N f (returnPage b true m o (addr b (x .hop .vp))) (setRole A p hand)
     give-one m o p en lo e x = (
       role-wf wide N fl A wf p hand (ap isFree e) refl (x .hop) (x .rest) (x .is),
       rw (give-is b m o (x .hop .vp), entry-is wide N fl A wf f m en pt o (x .hop .vp) lo (first-fits o p lo x), first-page o p x, ← (x .part)) (passed wide N fl f A wf p hand (ap isFree e) refl (x .hop) (x .rest) (x .is) m en),

@@ -17,7 +17,7 @@ use Rattle.rules.proofs.model.Abs.{Kind, pt, s1, s2, Role, header, hand
 use Rattle.rules.proofs.model.Apart.{pt-s1, pt-s2}
 use Rattle.rules.proofs.model.Facts.{in-range, nil-cons, length-parts, seek-here, seek-on, seek-nil, none-some, some-inj}
 use Rattle.rules.proofs.model.Read.{rootPage, entryAt, putAt, entry-three, kernel-lt, cell-none, cell-some}
-use Rattle.rules.proofs.model.Cells.{updC, updC-same, updC-other, set-cell}
+use Rattle.rules.proofs.model.Cells.{updC, updC-same, updC-other, set-cell, set-hand}
 use Rattle.rules.proofs.model.Roles.{setRole, isFree, role-wf, true-false}
 
 module _ (b : ℕ) where
@@ -139,6 +139,24 @@ module _ {b : ℕ} (wide : 6 ≤ b) where
         let nz : u .part ≢ 0 = λ e. header-desc (wf .head-role) (rw e at (g .1 .0 .live)) in
         let r = walked n u us _ _ (omega arith) (g .1) (fits-upd A a p (u ∷ us) C (h .part) (h .vp) (pte b p β (h .rt)) (g .1) (omega (arith, hop-depth A p h (u ∷ us) (g .0))) (t .1)) (s .after) in
         subst (λ (z : List ℕ). EncodesC b N f z A (flag b β p (u ∷ us) (updC C pt (h .part) (h .vp) (pte b p β (h .rt))))) (sym (walk-up b β n m (h .part) (h .vp) (u .vp) (λ z. nz (sym (s .parent) ∙ z)) (s .next))) (rw (s .parent) r)
+
+    -- pages in hand keep their words
+    pub walk-hand : (n : ℕ) (h : Hop) (hs : List Hop) (m : List ℕ) (C : Cells) → length hs < n → Good b A p (h ∷ hs) → Fits b a C p (h ∷ hs)
+        → EncodesC b N f m A C → (q j : ℕ) → A .role q ≡ hand → j < W b → word b (walk b β n m (h .part) (h .vp)) q j ≡ word b m q j
+    walk-hand zero h hs m C l g t en q j r k = absurd (omega arith)
+    walk-hand (suc n) h [] m C l g t en q j r k =
+        let s : Step h [] m C = step h [] m C g t en in
+        ap (λ (z : List ℕ). word b z q j) (walk-root b β n m (h .part) (h .vp) (s .parent))
+        ∙ set-hand wide N fl f A wf m C en pt (h .part) (h .vp) (g .0 .three .0) (g .0 .live) (g .0 .three .1) _ q j r k
+    walk-hand (suc n) h (u ∷ us) m C l g t en q j r k =
+        let s : Step h (u ∷ us) m C = step h (u ∷ us) m C g t en in
+        let nz : u .part ≢ 0 = λ e. header-desc (wf .head-role) (rw e at (g .1 .0 .live)) in
+        let m′ = putAt b m pt (h .part) (h .vp) (setAcc b β (entryAt b m pt (h .part) (h .vp))) in
+        let fit = fits-upd A a p (u ∷ us) C (h .part) (h .vp) (pte b p β (h .rt)) (g .1) (omega (arith, hop-depth A p h (u ∷ us) (g .0))) (t .1) in
+        let y : word b (walk b β n m′ (u .part) (u .vp)) q j ≡ word b m′ q j = walk-hand n u us m′ _ (omega arith) (g .1) fit (s .after) q j r k in
+        ap (λ (z : List ℕ). word b z q j) (walk-up b β n m (h .part) (h .vp) (u .vp) (λ z. nz (sym (s .parent) ∙ z)) (s .next))
+        ∙ subst (λ (d : ℕ). word b (walk b β n m′ d (u .vp)) q j ≡ word b m′ q j) (sym (s .parent)) y
+        ∙ set-hand wide N fl f A wf m C en pt (h .part) (h .vp) (g .0 .three .0) (g .0 .live) (g .0 .three .1) _ q j r k
 
   -- only the values of the cells count
   pub encodes-ext : (N : ℕ) (f m : List ℕ) (A : Abs) (C D : Cells) → ((k : Kind) (d v : ℕ) → C k d v ≡ D k d v) → EncodesC b N f m A C → EncodesC b N f m A D

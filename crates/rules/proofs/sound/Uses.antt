@@ -1,6 +1,6 @@
 -- Sentence 8: each page but the first is in exactly one hand or one kernel use.
 use mathlib.Core.Path.{_≡_, refl, sym, ap, _∙_, subst}
-use mathlib.Core.Bool.{Bool, true, false}
+use mathlib.Core.Bool.{Bool, true, false, false≢true}
 use mathlib.Core.List.{List, [], _∷_}
 use Prim.Native.Nat.{ℕ, zero, suc, _+_, _*_, _≤_, _<_}
 use native.Mathlib.Omega.{arith}
@@ -8,16 +8,18 @@ use lib.ListN.{length, getD}
 use Rattle.memory.specs.Geometry
 use Rattle.memory.specs.Words as Mem
 use Rattle.memory.specs.Partition
-use Rattle.memory.specs.Uses.{Way, five, listed, inHand, fivePages, UsedBy, Use}
+use Rattle.memory.specs.Uses.{Way, five, listed, inHand, KernelWay, isFive, isListed, fivePages, UsedBy, Use, KernelPage, serves}
 use Rattle.memory.specs.Sound.{Uses}
+use Rattle.rules.proofs.model.Base.{eqd}
 use Rattle.rules.proofs.model.Words.{addr, pageOf, bit, pageOf-addr}
-use Rattle.rules.proofs.model.Abs.{pt, s1, s2, Role, header, hand, blank, desc, root, lst, tab, Hop, Abs, Good, isHand, ownWord, lentWord, tag}
+use Rattle.rules.proofs.model.Abs.{pt, s1, s2, Role, header, hand, blank, desc, root, lst, tab, Hop, Abs, Good, Owner, isHand, ownWord, lentWord, tag}
 use Rattle.rules.proofs.model.Facts.{is-hand, Top}
 use Rattle.rules.proofs.model.Inv.{Inv, pages-is}
 use Rattle.rules.proofs.model.Listing.{pageAt, at-one}
+use Rattle.rules.proofs.sound.Views.{owner-kernel}
 use Rattle.rules.proofs.sound.Words.{Mapping, mapping-there, mapping-first, has-at, virtual-back, directory-is, shadow1-is, shadow2-is, list-is, threes-is}
 use Rattle.rules.proofs.sound.Tree.{live-in-tree, in-tree-live}
-use Rattle.rules.proofs.sound.Pages.{fivePage, fiveRole, five-role, pairs-are, listed-role, listed-physical}
+use Rattle.rules.proofs.sound.Pages.{fivePage, fiveRole, five-role, five-owner, pairs-are, listed-role, listed-owner, listed-physical}
 use Rattle.rules.proofs.sound.Places.{Place, in-hand, in-five, in-list, place, not-lent}
 
 -- the partition that a role names, and which of its five the page is
@@ -160,16 +162,51 @@ module _ {b : ℕ} (wide : 6 ≤ b) (m : List ℕ) (i : Inv b m) where
             used = (has-at wide m i (h .part) (h .vp) p _ (g .0 .live) x, x .present, x .accessible ∙ ap (λ (r : Role). bit (isHand r)) e, x .lent ∙ ap ownWord e, x .page);
           }
 
-  some-use : (p : ℕ) → p < i .N → Place A p → Use b m p
-  some-use p n (in-hand e) = held p e n
-  some-use p n (in-five d j l k e) = record { depth = length (A .chain d); part = d; way = five j; tree = live-in-tree wide m i d l; used = (k, five-names d l j ∙ e) }
-  some-use p n (in-list d j l k e) = record {
+  abbrev as-five : (p d j : ℕ) → A .role d ≡ desc → j < 5 → fivePage A d j ≡ p → Use b m p
+  as-five p d j l k e = record { depth = length (A .chain d); part = d; way = five j; tree = live-in-tree wide m i d l; used = (k, five-names d l j ∙ e) }
+
+  abbrev as-listed : (p d j : ℕ) → A .role d ≡ desc → j < 3 * length (A .threes d) → pageAt (A .threes d) j ≡ p → Use b m p
+  as-listed p d j l k e = record {
     depth = length (A .chain d);
     part = d;
     way = listed j;
     tree = live-in-tree wide m i d l;
     used = (omega (arith, threes-is wide m i d l), listed-page d l j k ∙ e);
   }
+
+  some-use : (p : ℕ) → p < i .N → Place A p → Use b m p
+  some-use p n (in-hand e) = held p e n
+  some-use p n (in-five d j l k e) = as-five p d j l k e
+  some-use p n (in-list d j l k e) = as-listed p d j l k e
+
+  -- the kernel pages are those in no hand
+  pub kernel-page : (p : ℕ) → isHand (A .role p) ≡ false → KernelPage b m p
+  kernel-page p h = elim (eqd p 0) [
+    | yes e ↦ subst (KernelPage b m) (sym e) KernelPage.header
+    | no n ↦ elim (place wide m i p n) [
+      | in-hand e ↦ absurd (false≢true (sym h ∙ ap isHand e))
+      | in-five d j l k e ↦ serves (as-five p d j l k e) isFive
+      | in-list d j l k e ↦ serves (as-listed p d j l k e) isListed
+    ]
+  ]
+
+  pub kernel-shut : (p : ℕ) → KernelPage b m p → isHand (A .role p) ≡ false
+  kernel-shut p KernelPage.header = ap isHand (i .wf .head-role)
+  kernel-shut p (serves u w) = go (u .way) w (u .used)
+    where
+      l : A .role (u .part) ≡ desc
+      l = in-tree-live wide m i (u .depth) (u .part) (u .tree)
+
+      owned : {q : ℕ} → q ≡ p → Owner (A .role q) q (u .part) → isHand (A .role p) ≡ false
+      owned {q} e o = subst (λ (z : ℕ). isHand (A .role z) ≡ false) e (owner-kernel (A .role q) q (u .part) o)
+
+      go : (y : Way) → KernelWay y → UsedBy b m (u .part) y p → isHand (A .role p) ≡ false
+      go (five j) isFive x =
+          let (n, e) = to-state (u .part) l (five j) p x in
+          owned e (five-owner wide m i (u .part) l j n)
+      go (listed j) isListed x =
+          let (n, e) = to-state (u .part) l (listed j) p x in
+          owned e (listed-owner wide m i (u .part) l j n)
 
   pub sound-uses : Uses b m
   sound-uses =

@@ -15,13 +15,15 @@ use Rattle.rules.specs.Moves.{returnPage, returnAll}
 use Rattle.rules.specs.Effects.{evens, listed, kernelAddresses}
 use Rattle.rules.proofs.model.Base.{eqd, upd, upd-same, upd-other}
 use Rattle.rules.proofs.model.Words.{W, addr, word, Sized, twelve-lt, sixty-one}
-use Rattle.rules.proofs.model.Abs.{pt, s1, s2, Role, header, hand, blank, desc, root, lst, tab, Hop, Three, Abs, headV, seek, Owner, WF, Cells, Encodes, EncodesC, isHand, ownWord, lentWord, cell, roleWord, descList, listList, listPairs}
+use Rattle.rules.proofs.model.Abs.{pt, s1, s2, Role, header, hand, blank, desc, root, lst, tab, Hop, Three, Abs, headV}
+use Rattle.rules.proofs.model.Abs.{seek, Owner, WF, Cells, Encodes, isHand, ownWord, lentWord, cell, roleWord, descList, listList, listPairs}
 use Rattle.rules.proofs.model.Facts.{seek-here}
 use Rattle.rules.proofs.model.Read.{kernel-lt, cell-s1}
 use Rattle.rules.proofs.steps.ListPage.{list-lt, list-page, list-word, free-is}
+use Rattle.rules.proofs.sound.Views.{owner-kernel}
 use Rattle.rules.proofs.steps.Delete.{after-parts, cut-none, delA, DelPre, no-self}
 use Rattle.rules.proofs.steps.DelWords.{choose, Back, back, mix, mix-some}
-use Rattle.rules.proofs.steps.DelSteps.{at-A, return-page, back-lent}
+use Rattle.rules.proofs.steps.DelSteps.{Midway, at-A, return-page, back-lent}
 
 -- ---- a part of a page as a list
 
@@ -155,9 +157,10 @@ module _ {b : ℕ} (wide : 6 ≤ b) (N : ℕ) (fl : ℕ → Option ℕ) (f : Lis
           ∙ cell-s1 wide A o (x .back .hop .vp) q _ e (ap (seek none o) (x .is) ∙ seek-here none o (x .back .hop) (x .back .rest) (sym (x .back .part)))
           ∙ own-zero (A .role q) q D w (λ y. true-false (ap S y ∙ d) z)
 
-  pub record Returned (S : ℕ → Bool) (qs : List ℕ) (m : List ℕ) : Type 0 where
+  -- the pages qs have come back besides those in S; the memory was m₀ before the call
+  pub record Returned (m₀ : List ℕ) (S : ℕ → Bool) (qs : List ℕ) (m : List ℕ) : Type 0 where
     pub pages : ℕ → Bool
-    pub words : EncodesC b N f m B (Mix pages)
+    pub mid : Midway wide N fl f A wf o D pre m₀ (Mix pages) pages m
     pub before : (p : ℕ) → S p ≡ true → pages p ≡ true
     pub all : (p : ℕ) → In p qs → pages p ≡ true
 
@@ -165,15 +168,19 @@ module _ {b : ℕ} (wide : 6 ≤ b) (N : ℕ) (fl : ℕ → Option ℕ) (f : Lis
   stay S q p e (yes y) = rw y (upd-same S q true)
   stay S q p e (no n) = upd-other S q true p n ∙ e
 
-  done : (q : ℕ) (qs : List ℕ) (S : ℕ → Bool) (m : List ℕ) → Returned (upd S q true) qs m → Returned S (q ∷ qs) m
-  done q qs S m r = record { pages = r .pages; words = r .words; before = λ p z. r .before p (stay S q p z (eqd p q)); all = all }
+  done : {m₀ : List ℕ} (q : ℕ) (qs : List ℕ) (S : ℕ → Bool) (m : List ℕ) → Returned m₀ (upd S q true) qs m → Returned m₀ S (q ∷ qs) m
+  done q qs S m r = record { pages = r .pages; mid = r .mid; before = λ p z. r .before p (stay S q p z (eqd p q)); all = all }
     where
       all : (p : ℕ) → In p (q ∷ qs) → r .pages p ≡ true
       all p (inl e) = r .before p (rw e (upd-same S q true))
       all p (inr i) = r .all p i
 
-  pub all-returned : (qs : List ℕ) (S : ℕ → Bool) (m : List ℕ) → Owned qs → S D ≡ true → EncodesC b N f m B (Mix S) → Returned S qs (returnAll b m o (places b (A .chain) qs))
-  all-returned [] S m w d en = record { pages = S; words = en; before = λ p z. z; all = λ p z. absurd z }
-  all-returned (q ∷ qs) S m w d en = done q qs S _ (all-returned qs (upd S q true) (returnPage b m o (addr b (headV (A .chain q)))) (w .1) (stay S q D d (eqd D q))
-      (subst (λ (v : ℕ). EncodesC b N f (returnPage b m o (addr b v)) B (Mix (upd S q true))) (sym (ap headV (own-back q (w .0) .is)))
-      (return-page wide N fl f A wf o D pre q (own-back q (w .0) .back) S m (own-lent S q d (w .0)) en)))
+  pub all-returned : {m₀ : List ℕ} (qs : List ℕ) (S : ℕ → Bool) (m : List ℕ) → Owned qs → S D ≡ true
+      → Midway wide N fl f A wf o D pre m₀ (Mix S) S m → Returned m₀ S qs (returnAll b m o (places b (A .chain) qs))
+  all-returned [] S m w d mid = record { pages = S; mid = mid; before = λ p z. z; all = λ p z. absurd z }
+  all-returned {m₀} (q ∷ qs) S m w d mid =
+      let x = own-back q (w .0) in
+      done q qs S _ (all-returned qs (upd S q true) (returnPage b true m o (addr b (headV (A .chain q)))) (w .1) (stay S q D d (eqd D q))
+      (subst (λ (v : ℕ). Midway wide N fl f A wf o D pre m₀ (Mix (upd S q true)) (upd S q true) (returnPage b true m o (addr b v)))
+      (sym (ap headV (x .is)))
+      (return-page wide N fl f A wf o D pre q (x .back) S m₀ m (owner-kernel (A .role q) q D (w .0)) (own-lent S q d (w .0)) mid)))

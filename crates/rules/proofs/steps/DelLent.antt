@@ -20,7 +20,7 @@ use Rattle.rules.proofs.model.Facts.{nil-cons, seek-here, seek-on, seek
 use Rattle.rules.proofs.model.Read.{rootPage, entryAt, entry-three, entry-no-three, unmapped, cell-none, cell-s1, Maps, maps-at}
 use Rattle.rules.proofs.steps.Delete.{after, after-here, after-on, cut, cut-some, delA, DelPre, Stays, kept, seek-after, o-stays, D-parts, del-wf}
 use Rattle.rules.proofs.steps.DelWords.{choose, back, mix, mix-none, mix-some}
-use Rattle.rules.proofs.steps.DelSteps.{at-A, release-page}
+use Rattle.rules.proofs.steps.DelSteps.{Midway, at-A, release-page}
 
 -- what stands below o in a chain is in it
 below-after : (o D : ℕ) (β : Option ℕ) (hs : List Hop) (s : Seen) → β ≢ some D → seek β o hs ≡ some s → s .below ≡ some D → (t : List Hop) × (after D hs ≡ some t)
@@ -54,7 +54,7 @@ module _ {b : ℕ} (wide : 6 ≤ b) (N : ℕ) (fl : ℕ → Option ℕ) (f : Lis
   abbrev Lent : ℕ → Type 0
   Lent p = (t : List Hop) × (after D (A .chain p) ≡ some t)
 
-  lent-gone : (p : ℕ) → Lent p → ¬ (Stays A D p)
+  pub lent-gone : (p : ℕ) → Lent p → ¬ (Stays A D p)
   lent-gone p t s = none-some (sym (s .clear) ∙ t .1)
 
   -- a child of o has its first place in o
@@ -77,7 +77,7 @@ module _ {b : ℕ} (wide : 6 ≤ b) (N : ℕ) (fl : ℕ → Option ℕ) (f : Lis
       cell-s1 wide A o v p (w .0) e (w .1) ∙ ap (lentWord b A (A .role p)) z
 
   -- no other page has that word
-  word-lent : (v : ℕ) → cell b A s1 o v ≡ c → (p : ℕ) × (A .maps o v ≡ some p) × Lent p
+  pub word-lent : (v : ℕ) → cell b A s1 o v ≡ c → (p : ℕ) × (A .maps o v ≡ some p) × Lent p
   unfolding lentWord
   word-lent v e = go (x .sees .below) refl
     where
@@ -106,7 +106,7 @@ module _ {b : ℕ} (wide : 6 ≤ b) (N : ℕ) (fl : ℕ → Option ℕ) (f : Lis
       let x = back wide N fl f A wf o D pre p (lent-gone p t) in
       ap (λ (hs : List Hop). A .maps o (headV hs)) (x .is) ∙ at-A wide N fl f A wf o D pre p x (λ q. false)
 
-  place : (p v : ℕ) → Lent p → A .maps o v ≡ some p → v ≡ At p
+  pub place : (p v : ℕ) → Lent p → A .maps o v ≡ some p → v ≡ At p
   place p v t e =
       let w = wf .seen o v p e in
       let y = wf .seen o (At p) p (at-place p t) in
@@ -114,10 +114,10 @@ module _ {b : ℕ} (wide : 6 ≤ b) (N : ℕ) (fl : ℕ → Option ℕ) (f : Lis
 
   -- ---- the loop over o's virtual pages
 
-  -- the pages lent to D at places below i have been released
-  pub record Released (i : ℕ) (m : List ℕ) : Type 0 where
+  -- the pages lent to D at places below i have been released; the memory was m₀ before the call
+  pub record Released (m₀ : List ℕ) (i : ℕ) (m : List ℕ) : Type 0 where
     pub pages : ℕ → Bool
-    pub words : EncodesC b N f m B (Mix pages)
+    pub mid : Midway wide N fl f A wf o D pre m₀ (Mix pages) pages m
     pub lent : (p : ℕ) → pages p ≡ true → Lent p
     pub all : (p : ℕ) → Lent p → At p < i → pages p ≡ true
 
@@ -134,29 +134,37 @@ module _ {b : ℕ} (wide : 6 ≤ b) (N : ℕ) (fl : ℕ → Option ℕ) (f : Lis
       go (some t) e = entry-three wide N fl B wB f m (Mix S) en s1 o v t o-live e .2
 
   -- at i, a page that is not released yet
-  not-yet : (i p : ℕ) (m : List ℕ) (r : Released i m) → idx b i < W b → A .maps o i ≡ some p → r .pages p ≡ false → entryAt b m s1 o i ≡ cell b A s1 o i
+  not-yet : {m₀ : List ℕ} (i p : ℕ) (m : List ℕ) (r : Released m₀ i m) → idx b i < W b → A .maps o i ≡ some p → r .pages p ≡ false
+      → entryAt b m s1 o i ≡ cell b A s1 o i
   unfolding choose
-  not-yet i p m r l e n = word-is m (r .pages) i (r .words) l ∙ mix-some wide N fl f A wf o D pre (r .pages) s1 o i p e ∙ ap (λ (β : Bool). choose β (cell b B s1 o i) (cell b A s1 o i)) n
+  not-yet i p m r l e n =
+      word-is m (r .pages) i (r .mid .tables) l
+      ∙ mix-some wide N fl f A wf o D pre (r .pages) s1 o i p e ∙ ap (λ (β : Bool). choose β (cell b B s1 o i) (cell b A s1 o i)) n
 
   -- the word at i names D: a page that is lent to D and was not released
-  named : (i : ℕ) (m : List ℕ) (r : Released i m) → idx b i < W b → entryAt b m s1 o i ≡ c → (p : ℕ) × (A .maps o i ≡ some p) × Lent p
+  named : {m₀ : List ℕ} (i : ℕ) (m : List ℕ) (r : Released m₀ i m) → idx b i < W b → entryAt b m s1 o i ≡ c
+      → (p : ℕ) × (A .maps o i ≡ some p) × Lent p
   named i m r l e = go (A .maps o i) refl
     where
       go : (y : Option ℕ) → A .maps o i ≡ y → (p : ℕ) × (A .maps o i ≡ some p) × Lent p
-      go none z = word-lent i (cell-none wide A s1 o i z ∙ sym (mix-none wide N fl f A wf o D pre (r .pages) s1 o i z ∙ cell-none wide A s1 o i z) ∙ sym (word-is m (r .pages) i (r .words) l) ∙ e)
+      go none z =
+          word-lent i (cell-none wide A s1 o i z ∙ sym (mix-none wide N fl f A wf o D pre (r .pages) s1 o i z ∙ cell-none wide A s1 o i z)
+          ∙ sym (word-is m (r .pages) i (r .mid .tables) l) ∙ e)
       go (some p) z = on (r .pages p) refl
         where
           on : (β : Bool) → r .pages p ≡ β → (p : ℕ) × (A .maps o i ≡ some p) × Lent p
           on true w = let t = r .lent p w in (p, z, t)
           on false w = word-lent i (sym (not-yet i p m r l z w) ∙ e)
 
-  step-yes : (i p : ℕ) (m : List ℕ) → Released i m → A .maps o i ≡ some p → Lent p → Released (suc i) (release b m o (addr b i))
-  step-yes i p m r e t =
+  step-yes : {m₀ : List ℕ} (i p : ℕ) (m : List ℕ) → Released m₀ i m → A .maps o i ≡ some p → Lent p
+      → Released m₀ (suc i) (release b m o (addr b i))
+  step-yes {m₀} i p m r e t =
       let x = back wide N fl f A wf o D pre p (lent-gone p t) in
       let k : i ≡ At p = place p i t e in
       record {
         pages = upd (r .pages) p true;
-        words = subst (λ (v : ℕ). EncodesC b N f (release b m o (addr b v)) B (Mix (upd (r .pages) p true))) (sym (k ∙ ap headV (x .is))) (release-page wide N fl f A wf o D pre p x (r .pages) m (r .words));
+        mid = subst (λ (v : ℕ). Midway wide N fl f A wf o D pre m₀ (Mix (upd (r .pages) p true)) (upd (r .pages) p true) (release b m o (addr b v)))
+            (sym (k ∙ ap headV (x .is))) (release-page wide N fl f A wf o D pre p x (r .pages) m₀ m (r .mid));
         lent = λ q z. lent q z (eqd q p);
         all = λ q u z. all q u z (eqd q p);
       }
@@ -171,8 +179,8 @@ module _ {b : ℕ} (wide : 6 ≤ b) (N : ℕ) (fl : ℕ → Option ℕ) (f : Lis
           let k : At q ≢ i = λ w. n (some-inj (sym (at-place q u) ∙ ap (A .maps o) w ∙ e)) in
           upd-other (r .pages) p true q n ∙ r .all q u (omega arith)
 
-  step-no : (i : ℕ) (m : List ℕ) → Released i m → idx b i < W b → entryAt b m s1 o i ≢ c → Released (suc i) m
-  step-no i m r l n = record { pages = r .pages; words = r .words; lent = r .lent; all = λ q u z. all q u z (eqd (At q) i) (r .pages q) refl }
+  step-no : {m₀ : List ℕ} (i : ℕ) (m : List ℕ) → Released m₀ i m → idx b i < W b → entryAt b m s1 o i ≢ c → Released m₀ (suc i) m
+  step-no i m r l n = record { pages = r .pages; mid = r .mid; lent = r .lent; all = λ q u z. all q u z (eqd (At q) i) (r .pages q) refl }
     where
       all : (q : ℕ) → Lent q → At q < suc i → Dec (At q ≡ i) → (β : Bool) → r .pages q ≡ β → r .pages q ≡ true
       all q u z y true w = w
@@ -181,18 +189,20 @@ module _ {b : ℕ} (wide : 6 ≤ b) (N : ℕ) (fl : ℕ → Option ℕ) (f : Lis
           let e : A .maps o i ≡ some q = ap (A .maps o) (sym y) ∙ at-place q u in
           absurd (n (not-yet i q m r l e w ∙ lent-word q i u e))
 
-  step : (i : ℕ) (m : List ℕ) → Released i m → idx b i < W b → Released (suc i) (cond (eqb (lent b m o (address b i)) c) (release b m o (address b i)) m)
+  step : {m₀ : List ℕ} (i : ℕ) (m : List ℕ) → Released m₀ i m → idx b i < W b
+      → Released m₀ (suc i) (cond (eqb (lent b m o (address b i)) c) (release b m o (address b i)) m)
   unfolding addr entryAt rootPage
-  step i m r l = go (eqb (lent b m o (address b i)) c) refl
+  step {m₀} i m r l = go (eqb (lent b m o (address b i)) c) refl
     where
       word : lent b m o (address b i) ≡ entryAt b m s1 o i
       word = rw (page-address b i) refl
 
-      go : (β : Bool) → eqb (lent b m o (address b i)) c ≡ β → Released (suc i) (cond (eqb (lent b m o (address b i)) c) (release b m o (address b i)) m)
+      go : (β : Bool) → eqb (lent b m o (address b i)) c ≡ β
+          → Released m₀ (suc i) (cond (eqb (lent b m o (address b i)) c) (release b m o (address b i)) m)
       go true e = let x = named i m r l (sym word ∙ eqb-true _ _ e) in rw e (step-yes i (x .0) m r (x .1) (x .2))
       go false e = rw e (step-no i m r l (λ z. eqb-false _ _ e (word ∙ z)))
 
-  pub all-released : (n i : ℕ) (m : List ℕ) → i + n ≤ words b → Released i m → Released (i + n) (releaseAll b n i m o c)
+  pub all-released : {m₀ : List ℕ} (n i : ℕ) (m : List ℕ) → i + n ≤ words b → Released m₀ i m → Released m₀ (i + n) (releaseAll b n i m o c)
   unfolding releaseAll
   all-released zero i m l r = let e : i ≡ i + 0 = omega arith in rw (← e) r
   all-released (suc n) i m l r =

@@ -1,26 +1,31 @@
--- deletePartition on the words, a page at a time: a lent page is released, a kernel page is returned.
+-- deletePartition on the words, a page at a time: a lent page is released, a kernel page is returned. Of pages in hand it is said which words they have.
 use mathlib.Core.Path.{_≡_, refl, sym, ap, _∙_, subst}
 use mathlib.Core.Logic.{_≢_}
-use mathlib.Core.Bool.{Bool, true, false, cond, _||_}
+use mathlib.Core.Bool.{Bool, true, false, cond, not, _&&_, _||_, false≢true}
 use mathlib.Core.Option.{Option, none, some}
 use mathlib.Core.List.{List, _∷_}
-use Prim.Native.Nat.{ℕ, _≤_}
+use Prim.Native.Nat.{ℕ, _≤_, _<_}
 use native.Mathlib.Omega.{arith}
-use borrow.Author.Tests.{eqb-false}
+use borrow.Author.Tests.{eqb-true, eqb-false}
 use lib.Dec.{eqb}
+use lib.Bits.{bitAnd}
+use lib.ListN.{length}
+use Rattle.memory.specs.Entry.{writeRight, holds}
 use Rattle.memory.proofs.Geometry.{page-address}
 use Rattle.rules.specs.Moves.{returnPage}
 use Rattle.rules.specs.Effects.{release}
 use Rattle.rules.proofs.model.Base.{eqd, upd, upd-same, upd-other}
-use Rattle.rules.proofs.model.Words.{addr, idx, pte, pageOf, accOf, bit, pageOf-pte, accOf-pte, wipe}
-use Rattle.rules.proofs.model.Abs.{Kind, pt, s1, s2, Role, hand, desc, Hop, Three, Abs, headV, Seen, seek, threeAt, GoodHop, Good, WF, Cells, EncodesC, isHand, ownWord, lentWord, seenWord, cell}
+use Rattle.rules.proofs.model.Words.{W, addr, word, idx, pte, pageOf, accOf, rightsOf, bit}
+use Rattle.rules.proofs.model.Words.{pageOf-pte, accOf-pte, rightsOf-pte, wipe, wipe-other, wipe-same}
+use Rattle.rules.proofs.model.Abs.{Kind, pt, s1, s2, Role, hand, desc, Hop, Three, Abs, headV, Seen, seek, threeAt, GoodHop}
+use Rattle.rules.proofs.model.Abs.{Good, WF, Cells, Encodes, EncodesC, isHand, ownWord, lentWord, seenWord, cell}
 use Rattle.rules.proofs.model.Apart.{pt-s1, pt-s2, s1-s2}
-use Rattle.rules.proofs.model.Facts.{seek-here, none-some, some-inj, Top, top as top-hop}
+use Rattle.rules.proofs.model.Facts.{seek-here, in-range, none-some, some-inj, Top, top as top-hop}
 use Rattle.rules.proofs.model.Read.{rootPage, entryAt, putAt, entry-three, cell-some}
-use Rattle.rules.proofs.model.Cells.{Same, samed, updC, updC-same, updC-other, set-cell}
-use Rattle.rules.proofs.model.Walk.{walk, walked, flag, flag-kind, flag-none, flag-hit, Fits, fits, hop-depth, encodes-ext}
-use Rattle.rules.proofs.model.Take.{give-is}
-use Rattle.rules.proofs.steps.Delete.{delA, DelPre, Stays, used, gone, kept, maps-used, o-stays, del-wf}
+use Rattle.rules.proofs.model.Cells.{Same, samed, updC, updC-same, updC-other, set-cell, set-hand}
+use Rattle.rules.proofs.model.Walk.{walk, walked, walk-hand, flag, flag-kind, flag-none, flag-hit, Fits, fits, hop-depth, encodes-ext}
+use Rattle.rules.proofs.model.Take.{give-is, keep-is}
+use Rattle.rules.proofs.steps.Delete.{cut, delA, DelPre, Stays, used, gone, kept, maps-used, o-stays, del-wf}
 use Rattle.rules.proofs.steps.DelWords.{ext-live, wipe-hand, choose, either, cons-hop, fits-cut, fits-ext, Back, Twice, twice, below-stays, lent-some, mix, mix-none, mix-some}
 
 module _ {b : ℕ} (wide : 6 ≤ b) (N : ℕ) (fl : ℕ → Option ℕ) (f : List ℕ) (A : Abs) (wf : WF b N fl A) (o D : ℕ) (pre : DelPre A o D) where
@@ -35,6 +40,19 @@ module _ {b : ℕ} (wide : 6 ≤ b) (N : ℕ) (fl : ℕ → Option ℕ) (f : Lis
 
   abbrev Returns : ℕ → Type 0
   Returns = Back wide N fl f A wf o D pre
+
+  -- whether o holds write on page p, by its word for it before the call
+  abbrev Writes : ℕ → Bool
+  Writes p = holds writeRight (cell b A pt o (headV (cut D (A .chain p))))
+
+  -- whether the page is wiped when it comes back: it was a kernel page, or o holds write on it
+  abbrev pub Wiped : ℕ → Bool
+  Wiped p = not (isHand (A .role p)) || Writes p
+
+  -- m in the midst of the call: tables with the cells C, and the words of pages in hand where those in S have come back. Before the call they were m₀'s.
+  pub record Midway (m₀ : List ℕ) (C : Cells) (S : ℕ → Bool) (m : List ℕ) : Type 0 where
+    pub tables : EncodesC b N f m B C
+    pub hands : (q j : ℕ) → B .role q ≡ hand → j < W b → word b m q j ≡ choose (S q && Wiped q) 0 (word b m₀ q j)
 
   -- p comes back; the pages in S have come back already
   module _ (p : ℕ) (x : Returns p) (S : ℕ → Bool) where
@@ -220,44 +238,136 @@ module _ {b : ℕ} (wide : 6 ≤ b) (N : ℕ) (fl : ℕ → Option ℕ) (f : Lis
         let r : t .s .rt ≡ x .hop .rt = sym (t .rt) ∙ ap (λ (z : Seen). z .rt) (some-inj (sym (t .now) ∙ sees-now)) in
         entry-three wide N fl B wB f m C en pt o u (place .0) o-live (place .1) .2 ∙ c ∙ pt-now o u so at-A t ∙ ap (pte b p isOpen) r
 
-    pub cleared : (m : List ℕ) → EncodesC b N f m B (Mix S) → EncodesC b N f (putAt b m s1 o u 0) B C1
-    cleared m en = set-cell wide N fl f B wB m (Mix S) en s1 o u (place .0) o-live (place .1) 0
+    -- the page is wiped or not: other pages in hand keep their words
+    wipe-tables : (t : Bool) (m : List ℕ) → EncodesC b N f m B C1 → EncodesC b N f (cond t (wipe b m p) m) B C1
+    wipe-tables true m en = wipe-hand wide N f m B C1 p role-now en
+    wipe-tables false m en = en
 
-    pub returned : (m : List ℕ) → EncodesC b N f m B C1 → EncodesC b N f (returnPage b m o (addr b u)) B (Mix S′)
-    returned m en =
-        let pp : pageOf b (entryAt b m pt o u) ≡ p = ap (pageOf b) (word-now m C1 en (updC-other (Mix S) s1 o u 0 pt o u (λ y. pt-s1 (y .0)))) ∙ pageOf-pte wide p isOpen (x .hop .rt) (g .0 .small) in
-        let w : EncodesC b N f (walk b true 9 (wipe b m p) (x .hop .part) u) B (flag b true p (x .hop ∷ x .rest) C1) = walked wide N fl f B wB p isOpen true 9 (x .hop) (x .rest) (wipe b m p) C1
-        (omega (arith, wB .depth (x .hop .part) (g .0 .live), hop-depth wide B p (x .hop) (x .rest) (g .0))) g walk-fits (wipe-hand wide N f m B C1 p role-now en) in
-        rw (give-is b m o u, pp) (subst (λ (z : ℕ). EncodesC b N f (walk b true 9 (wipe b m p) z u) B (Mix S′)) (x .part) (ext-live wide N fl f _ B wB _ (Mix S′) walk-cells w))
+    wipe-word : (t : Bool) (m : List ℕ) → EncodesC b N f m B C1 → (j : ℕ) → j < W b
+        → word b (cond t (wipe b m p) m) p j ≡ choose t 0 (word b m p j)
+    unfolding choose
+    wipe-word true m en j k = wipe-same wide N m p j (en .sized) (in-range wide N fl B wB p (x .hop) (x .rest) (x .is)) k
+    wipe-word false m en j k = refl
 
-    -- a lent page; it is returned if it was not accessible
-    pub release-page : (m : List ℕ) → EncodesC b N f m B (Mix S) → EncodesC b N f (release b m o (addr b u)) B (Mix S′)
+    wipe-apart : (t : Bool) (m : List ℕ) (q j : ℕ) → q ≢ p → j < W b → word b (cond t (wipe b m p) m) q j ≡ word b m q j
+    wipe-apart true m q j n k = wipe-other wide m p q j k n
+    wipe-apart false m q j n k = refl
+
+    -- the words of pages in hand, where p is wiped or not, as t says
+    come-back : (t : Bool) (m₀ m : List ℕ) → Midway m₀ C1 S m → ((w : ℕ) → choose t 0 (choose (S p && Wiped p) 0 w) ≡ choose (Wiped p) 0 w)
+        → (q j : ℕ) → B .role q ≡ hand → j < W b → word b (cond t (wipe b m p) m) q j ≡ choose (S′ q && Wiped q) 0 (word b m₀ q j)
+    come-back t m₀ m mid settle q j r k = go (eqd q p)
+      where
+        go : Dec (q ≡ p) → word b (cond t (wipe b m p) m) q j ≡ choose (S′ q && Wiped q) 0 (word b m₀ q j)
+        go (no n) =
+            wipe-apart t m q j n k ∙ mid .hands q j r k
+            ∙ ap (λ (s : Bool). choose (s && Wiped q) 0 (word b m₀ q j)) (sym (upd-other S p true q n))
+        go (yes e) =
+            rw e (wipe-word t m (mid .tables) j k ∙ ap (choose t 0) (mid .hands p j role-now k) ∙ settle (word b m₀ p j)
+            ∙ ap (λ (s : Bool). choose (s && Wiped p) 0 (word b m₀ p j)) (sym (upd-same S p true)))
+
+    pub cleared : (m₀ m : List ℕ) → Midway m₀ (Mix S) S m → Midway m₀ C1 S (putAt b m s1 o u 0)
+    cleared m₀ m mid = record {
+      tables = set-cell wide N fl f B wB m (Mix S) (mid .tables) s1 o u (place .0) o-live (place .1) 0;
+      hands = λ q j r k. set-hand wide N fl f B wB m (Mix S) (mid .tables) s1 o u (place .0) o-live (place .1) 0 q j r k ∙ mid .hands q j r k;
+    }
+
+    entry-now : (m : List ℕ) → EncodesC b N f m B C1 → entryAt b m pt o u ≡ pte b p isOpen (x .hop .rt)
+    entry-now m en = word-now m C1 en (updC-other (Mix S) s1 o u 0 pt o u (λ y. pt-s1 (y .0)))
+
+    page-now : (m : List ℕ) → EncodesC b N f m B C1 → pageOf b (entryAt b m pt o u) ≡ p
+    page-now m en = ap (pageOf b) (entry-now m en) ∙ pageOf-pte wide p isOpen (x .hop .rt) (g .0 .small)
+
+    -- a kernel page
+    pub returned : (m₀ m : List ℕ) → isHand (A .role p) ≡ false → Midway m₀ C1 S m
+        → Midway m₀ (Mix S′) S′ (returnPage b true m o (addr b u))
+    unfolding choose
+    returned m₀ m h mid =
+        rw (give-is b m o u, page-now m (mid .tables)) (subst (λ (z : ℕ). Midway m₀ (Mix S′) S′ (walk b true 9 (wipe b m p) z u)) (x .part) (record {
+          tables = ext-live wide N fl f _ B wB _ (Mix S′) walk-cells
+              (walked wide N fl f B wB p isOpen true 9 (x .hop) (x .rest) (wipe b m p) C1 short g walk-fits now);
+          hands = λ q j r k. walk-hand wide N fl f B wB p isOpen true 9 (x .hop) (x .rest) (wipe b m p) C1 short g walk-fits now q j r k
+              ∙ come-back true m₀ m mid (λ w. sym (ap (λ (t : Bool). choose (not t || Writes p) 0 w) h)) q j r k;
+        }))
+      where
+        now : EncodesC b N f (wipe b m p) B C1
+        now = wipe-tables true m (mid .tables)
+
+        short : length (x .rest) < 9
+        short = omega (arith, wB .depth (x .hop .part) (g .0 .live), hop-depth wide B p (x .hop) (x .rest) (g .0))
+
+    -- a page that was no kernel page
+    writes-same : holds writeRight (pte b p isOpen (x .hop .rt)) ≡ Writes p
+    unfolding seenWord rightsOf
+    writes-same =
+        let t : See o u = see o u so at-A in
+        let r : t .s .rt ≡ x .hop .rt = sym (t .rt) ∙ ap (λ (z : Seen). z .rt) (some-inj (sym (t .now) ∙ sees-now)) in
+        let e : cell b A pt o (headV (cut D (A .chain p))) ≡ pte b p (isHand (A .role p)) (x .hop .rt) =
+        ap (λ (hs : List Hop). cell b A pt o (headV hs)) (x .is) ∙ cell-some wide A pt o u p (t .s) at-A (t .was) ∙ ap (pte b p (isHand (A .role p))) r in
+        let rights : (β : Bool) → rightsOf (pte b p β (x .hop .rt)) ≡ x .hop .rt = λ β. rightsOf-pte wide p β (x .hop .rt) (g .0 .small) in
+        ap (λ (z : ℕ). eqb (bitAnd writeRight z) writeRight) (rights isOpen ∙ sym (ap rightsOf e ∙ rights (isHand (A .role p))))
+
+    settled : (s h t : Bool) → (s || h) ≡ true → (w : ℕ) → choose t 0 (choose (s && (not h || t)) 0 w) ≡ choose (not h || t) 0 w
+    unfolding choose
+    settled s h true e w = go h
+      where
+        go : (h : Bool) → 0 ≡ choose (not h || true) 0 w
+        go true = refl
+        go false = refl
+    settled true h false e w = refl
+    settled false true false e w = refl
+    settled false false false e w = absurd (false≢true e)
+
+    pub opened : (m₀ m : List ℕ) → isOpen ≡ true → Midway m₀ C1 S m → Midway m₀ (Mix S′) S′ (returnPage b false m o (addr b u))
+    opened m₀ m h mid =
+        let t = holds writeRight (pte b p isOpen (x .hop .rt)) in
+        rw (keep-is b m o u, page-now m (mid .tables), entry-now m (mid .tables)) (record {
+          tables = ext-live wide N fl f _ B wB C1 (Mix S′) (open-cells h) (wipe-tables t m (mid .tables));
+          hands = come-back t m₀ m mid (λ w. rw (← writes-same) (settled (S p) (isHand (A .role p)) t h w));
+        })
+
+    -- a lent page; it was a kernel page if it was not accessible
+    pub release-page : (m₀ m : List ℕ) → Midway m₀ (Mix S) S m → Midway m₀ (Mix S′) S′ (release b m o (addr b u))
     unfolding putAt rootPage entryAt addr accOf
-    release-page m en = rw (page-address b u) (go (eqb (accOf (entryAt b m pt o u)) 0) refl)
+    release-page m₀ m mid = rw (page-address b u) (go (eqb (accOf (entryAt b m pt o u)) 0) refl)
       where
         m₁ : List ℕ
         m₁ = putAt b m s1 o u 0
 
-        word : entryAt b m pt o u ≡ pte b p isOpen (x .hop .rt)
-        word = word-now m (Mix S) en refl
+        bit-is : accOf (entryAt b m pt o u) ≡ bit isOpen
+        bit-is = ap accOf (word-now m (Mix S) (mid .tables) refl) ∙ accOf-pte wide p isOpen (x .hop .rt) (g .0 .small)
 
         is-open : (β : Bool) → bit β ≢ 0 → β ≡ true
         is-open true n = refl
         is-open false n = absurd (n refl)
 
-        go : (β : Bool) → eqb (accOf (entryAt b m pt o u)) 0 ≡ β → EncodesC b N f (cond (eqb (accOf (entryAt b m pt o u)) 0) (returnPage b m₁ o (addr b u)) m₁) B (Mix S′)
-        go true e = rw e (returned m₁ (cleared m en))
-        go false e =
-            let n : bit isOpen ≢ 0 = λ z. eqb-false _ _ e (ap accOf word ∙ accOf-pte wide p isOpen (x .hop .rt) (g .0 .small) ∙ z) in
-            rw e (ext-live wide N fl f m₁ B wB C1 (Mix S′) (open-cells (is-open isOpen n)) (cleared m en))
+        not-hand-then : (s h : Bool) → bit (s || h) ≡ 0 → h ≡ false
+        not-hand-then s false e = refl
+        not-hand-then true true e = absurd (omega arith)
+        not-hand-then false true e = absurd (omega arith)
+
+        go : (β : Bool) → eqb (accOf (entryAt b m pt o u)) 0 ≡ β
+            → Midway m₀ (Mix S′) S′ (returnPage b (eqb (accOf (entryAt b m pt o u)) 0) m₁ o (addr b u))
+        go true e = rw e (returned m₀ m₁ (not-hand-then (S p) (isHand (A .role p)) (sym bit-is ∙ eqb-true _ _ e)) (cleared m₀ m mid))
+        go false e = rw e (opened m₀ m₁ (is-open isOpen (λ z. eqb-false _ _ e (bit-is ∙ z))) (cleared m₀ m mid))
 
     -- a kernel page, whose shadow 1 word is 0
-    pub return-page : (m : List ℕ) → Mix S s1 o u ≡ 0 → EncodesC b N f m B (Mix S) → EncodesC b N f (returnPage b m o (addr b u)) B (Mix S′)
-    return-page m z en = returned m (encodes-ext wide N f m B (Mix S) C1 (λ k d v. same k d v (samed k d v s1 o u)) en)
+    pub return-page : (m₀ m : List ℕ) → isHand (A .role p) ≡ false → Mix S s1 o u ≡ 0 → Midway m₀ (Mix S) S m
+        → Midway m₀ (Mix S′) S′ (returnPage b true m o (addr b u))
+    return-page m₀ m h z mid =
+        let en = encodes-ext wide N f m B (Mix S) C1 (λ k d v. same k d v (samed k d v s1 o u)) (mid .tables) in
+        returned m₀ m h (record { tables = en; hands = mid .hands })
       where
         same : (k : Kind) (d v : ℕ) → Dec (Same k d v s1 o u) → Mix S k d v ≡ C1 k d v
         same k d v (yes y) = rw (y .0, y .1 .0, y .1 .1, updC-same (Mix S) s1 o u 0) z
         same k d v (no n) = sym (updC-other (Mix S) s1 o u 0 k d v n)
+
+    -- once all have come back it is in o's hand
+    pub hand-now : (m : List ℕ) → Encodes b N f m B → (accOf (entryAt b m pt o u) ≡ 1) × (entryAt b m s1 o u ≡ 0)
+    hand-now m en =
+        let read : (k : Kind) → entryAt b m k o u ≡ cell b B k o u =
+        λ k. entry-three wide N fl B wB f m (cell b B) en k o u (place .0) o-live (place .1) .2 in
+        (ap accOf (read pt ∙ cell-pt-B o u _ at-B sees-now) ∙ accOf-pte wide p true (x .hop .rt) (g .0 .small), read s1 ∙ cell-s1-B)
 
     -- a page that has come back has shadow 1 word 0 in o
     pub back-lent : S p ≡ true → Mix S s1 o u ≡ 0

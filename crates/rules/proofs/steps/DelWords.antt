@@ -208,7 +208,7 @@ module _ {b : ℕ} (wide : 6 ≤ b) where
             ∙ sym (cell-some wide B s1 d v q s mm (now s w) ∙ ap (λ (z : Role). lentWord b B z (s .below)) r)
         go s2 s w = cell-some wide A s2 d v q s e w ∙ sym (cell-some wide B s2 d v q s mm (now s w))
 
-    mapped-lt : (d v q : ℕ) → A .maps d v ≡ some q → q < N
+    pub mapped-lt : (d v q : ℕ) → A .maps d v ≡ some q → q < N
     mapped-lt d v q e = go (A .chain q) refl (wf .seen d v q e .1)
       where
         go : (hs : List Hop) → A .chain q ≡ hs → seek none d (A .chain q) ≡ some (wf .seen d v q e .0) → q < N

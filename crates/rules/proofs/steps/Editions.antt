@@ -18,6 +18,7 @@ use Rattle.rules.specs.Calls as C
 use Rattle.rules.specs.Editions.{after, run, nextEdition, lastEdition}
 use Rattle.rules.specs.Permitted.{Fits}
 use Rattle.rules.specs.SameChain.{SameChain}
+use Rattle.rules.specs.Deleted.{EveryDelete}
 use Rattle.rules.proofs.Rows.{after-ok, after-no}
 use Rattle.rules.proofs.Choices.{is-format}
 use Rattle.rules.proofs.Size.{fits, fit, passes, refused}
@@ -28,6 +29,7 @@ use Rattle.rules.proofs.sound.All.{inv-sound}
 use Rattle.rules.proofs.steps.Unchanged.{inv-formatAll}
 use Rattle.rules.proofs.steps.Step.{inv-step}
 use Rattle.rules.proofs.steps.PrepareCollect.{same-chain}
+use Rattle.rules.proofs.steps.Deleted.{deleted-pages}
 
 -- the memory has the invariant of edition e
 pub record Held (e : ℕ) (m : List ℕ) : Type 0 where
@@ -121,6 +123,17 @@ module _ (e : ℕ) (m : List ℕ) (f : Fits e m) (cs : List Call) where
   abbrev formatted : List ℕ
   formatted = run (format (widthOf e) (pagesIn (widthOf e) m)) cs
 
+  invariant : Inv (width formatted) formatted
+  invariant = held-own _ formatted (held-run e _ (held-format m e f) cs)
+
   pub same-chain-run : (c t p : ℕ) → refusal (width formatted) formatted (prepare c t p) ≡ 0 → SameChain (width formatted) formatted c t p
   same-chain-run c t p h =
-      same-chain (wide-of (edition formatted) (edition-known formatted)) formatted (held-own _ formatted (held-run e _ (held-format m e f) cs)) c t p h
+      same-chain (wide-of (edition formatted) (edition-known formatted)) formatted invariant c t p h
+
+-- .. and what deletePartition leaves of the pages that come back
+pub every-delete : EveryDelete
+unfolding run
+every-delete e start f cs c =
+    let m = run start (formatAll e ∷ cs) in
+    let i : Inv (width m) m = rw (format-leaves start e f) (invariant e start f cs) in
+    deleted-pages (wide-of (edition m) (edition-known m)) m i c

@@ -1,7 +1,7 @@
 -- deletePartition keeps the invariant.
 use mathlib.Core.Path.{_≡_, refl, sym, ap, _∙_, subst}
 use mathlib.Core.Logic.{_≢_, inl, inr}
-use mathlib.Core.Bool.{Bool, true, false, false≢true}
+use mathlib.Core.Bool.{Bool, true, false, _&&_, false≢true}
 use mathlib.Core.Option.{Option, some}
 use mathlib.Core.List.{List, [], _∷_}
 use Prim.Native.Nat.{ℕ, _+_, _≤_, _<_}
@@ -14,13 +14,14 @@ use Rattle.rules.specs.Moves.{returnPage, returnAll}
 use Rattle.rules.specs.Refusals.{refusals, refusal}
 use Rattle.rules.specs.Effects.{releaseAll, delete, effect}
 use Rattle.rules.proofs.model.Base.{eqd, upd, upd-same, pick-yes, pick-no}
-use Rattle.rules.proofs.model.Words.{W, addr, idx, words, pageOf, below-idx}
-use Rattle.rules.proofs.model.Abs.{Kind, pt, s1, s2, Role, header, hand, blank, desc, root, lst, tab, Three, threeAt, Abs, headV, Owner, Tabs, WF, Encodes, EncodesC, Cells, cell}
+use Rattle.rules.proofs.model.Words.{W, addr, word, idx, words, pageOf, below-idx}
+use Rattle.rules.proofs.model.Abs.{Kind, pt, s1, s2, Role, header, hand, blank, desc, root, lst, tab, Three}
+use Rattle.rules.proofs.model.Abs.{threeAt, Abs, headV, Owner, Tabs, WF, Encodes, Cells, isHand, cell}
 use Rattle.rules.proofs.model.Facts.{differ, none-some, some-inj}
 use Rattle.rules.proofs.model.Read.{rootPage, entryAt, putAt, entry-is, child-view, maps-three, three-is}
-use Rattle.rules.proofs.steps.Delete.{delA, DelPre, Fate, fate, through, owned, stays, Stays, delRole, fateRole, del-wf}
-use Rattle.rules.proofs.steps.DelWords.{none-yet, mix, begin, finish}
-use Rattle.rules.proofs.steps.DelSteps.{cleared, returned}
+use Rattle.rules.proofs.steps.Delete.{delA, DelPre, Fate, fate, through, owned, stays, Stays, delRole, fateRole, gone, del-wf}
+use Rattle.rules.proofs.steps.DelWords.{choose, none-yet, mix, begin, finish}
+use Rattle.rules.proofs.steps.DelSteps.{Wiped, Midway, cleared, returned}
 use Rattle.rules.proofs.steps.DelLent.{Released, all-released, at-place}
 use Rattle.rules.proofs.steps.DelKernel.{places, tablePages, kernel-is, In, Owned, own-back, Returned, stay, all-returned}
 use Rattle.rules.proofs.model.Format.{flat0}
@@ -81,25 +82,37 @@ module _ {b : ℕ} (wide : 6 ≤ b) (N : ℕ) (fl : ℕ → Option ℕ) (f m : L
 
   -- ---- the whole
 
-  released : Released wide N fl f A wf o D pre (0 + words b) (releaseAll b (words b) 0 m o c)
-  released = all-released wide N fl f A wf o D pre (words b) 0 m (omega arith)
-      (record { pages = none-yet wide N fl f A wf o D pre; words = begin wide N fl f A wf o D pre m en; lent = λ p e. absurd (false≢true e); all = λ p t e. absurd (omega arith) })
+  released : Released wide N fl f A wf o D pre m (0 + words b) (releaseAll b (words b) 0 m o c)
+  unfolding choose
+  released = all-released wide N fl f A wf o D pre (words b) 0 m (omega arith) (record {
+    pages = none-yet wide N fl f A wf o D pre;
+    mid = record { tables = begin wide N fl f A wf o D pre m en; hands = λ q j r k. refl };
+    lent = λ p e. absurd (false≢true e);
+    all = λ p t e. absurd (omega arith);
+  })
 
   abbrev Mix : (ℕ → Bool) → Cells
   Mix = mix wide N fl f A wf o D pre
 
   -- the descriptor's mark is cleared, then the page is returned
-  abbrev m₂ : List ℕ
-  m₂ = returnPage b (putAt b (releaseAll b (words b) 0 m o c) s1 o (headV (A .chain D)) 0) o c
+  abbrev m₁ : List ℕ
+  m₁ = releaseAll b (words b) 0 m o c
 
-  descriptor : EncodesC b N f m₂ (delA A D) (Mix (upd (released .pages) D true))
+  abbrev m₂ : List ℕ
+  m₂ = returnPage b true (putAt b m₁ s1 o (headV (A .chain D)) 0) o c
+
+  abbrev S₂ : ℕ → Bool
+  S₂ = upd (released .pages) D true
+
+  descriptor : Midway wide N fl f A wf o D pre m (Mix S₂) S₂ m₂
   descriptor =
       let x = own-back wide N fl f A wf o D pre D (own-as D desc (pre .child) refl) in
-      subst (λ (v : ℕ). EncodesC b N f (returnPage b (putAt b (releaseAll b (words b) 0 m o c) s1 o v 0) o (addr b v)) (delA A D) (Mix (upd (released .pages) D true))) (sym (ap headV (x .is)))
-      (returned wide N fl f A wf o D pre D (x .back) (released .pages) _ (cleared wide N fl f A wf o D pre D (x .back) (released .pages) _ (released .words)))
+      subst (λ (v : ℕ). Midway wide N fl f A wf o D pre m (Mix S₂) S₂ (returnPage b true (putAt b m₁ s1 o v 0) o (addr b v))) (sym (ap headV (x .is)))
+      (returned wide N fl f A wf o D pre D (x .back) (released .pages) m _ (ap isHand (pre .child))
+      (cleared wide N fl f A wf o D pre D (x .back) (released .pages) m m₁ (released .mid)))
 
-  rest : Returned wide N fl f A wf o D pre (upd (released .pages) D true) others (returnAll b m₂ o (places b (A .chain) others))
-  rest = all-returned wide N fl f A wf o D pre others (upd (released .pages) D true) m₂ others-owned (upd-same (released .pages) D true) descriptor
+  rest : Returned wide N fl f A wf o D pre m S₂ others (returnAll b m₂ o (places b (A .chain) others))
+  rest = all-returned wide N fl f A wf o D pre others S₂ m₂ others-owned (upd-same (released .pages) D true) descriptor
 
   covers : (p : ℕ) → rest .pages p ≡ false → p < N → Stays A D p
   covers p e l = go (fate A D p)
@@ -124,7 +137,18 @@ module _ {b : ℕ} (wide : 6 ≤ b) (N : ℕ) (fl : ℕ → Option ℕ) (f m : L
   delete-is e = rw (page-address b (headV (A .chain D)), e, kernel-is wide N fl f m A wf en D (pre .child)) refl
 
   pub deleted : pageOf b (entryAt b m pt o (headV (A .chain D))) ≡ D → Encodes b N f (delete b m o c) (delA A D)
-  deleted e = rw (delete-is e) (finish wide N fl f A wf o D pre _ (rest .pages) covers (rest .words))
+  deleted e = rw (delete-is e) (finish wide N fl f A wf o D pre _ (rest .pages) covers (rest .mid .tables))
+
+  -- a page that comes back is wiped, or keeps its words
+  pub deleted-words : pageOf b (entryAt b m pt o (headV (A .chain D))) ≡ D → (p j : ℕ) → ¬ (Stays A D p) → p < N → j < W b
+      → word b (delete b m o c) p j ≡ choose (Wiped wide N fl f A wf o D pre p) 0 (word b m p j)
+  deleted-words e p j n l k =
+      rw (delete-is e) (rest .mid .hands p j (gone wide N fl A wf o D pre p n) k
+      ∙ ap (λ (s : Bool). choose (s && Wiped wide N fl f A wf o D pre p) 0 (word b m p j)) (back (rest .pages p) refl))
+    where
+      back : (β : Bool) → rest .pages p ≡ β → rest .pages p ≡ true
+      back true z = z
+      back false z = absurd (n (covers p z l))
 
 module _ {b : ℕ} (wide : 6 ≤ b) (m : List ℕ) (i : Inv b m) where
   abbrev fl : ℕ → Option ℕ
@@ -140,21 +164,49 @@ module _ {b : ℕ} (wide : 6 ≤ b) (m : List ℕ) (i : Inv b m) where
       go (stays h n) z = i .full p z
 
   -- the child at virtual page v is D
-  delete-child : (v D : ℕ) → idx b v < W b → entryAt b m s1 (current b m) v ≡ 1 → pageOf b (entryAt b m pt (current b m) v) ≡ D → Inv b (delete b m (current b m) (addr b v))
-  delete-child v D l e d =
-      let read : (k : Kind) → entryAt b m k (current b m) v ≡ cell b (i .state) k (current b m) v = λ k. entry-is wide (i .N) fl (i .state) (i .wf) (fixed b (i .N)) m (i .words) k (current b m) v (live wide m i) l in
-      let x = child-view wide (i .N) fl (i .state) (i .wf) (current b m) v (sym (read s1) ∙ e) in
+  child-pre : (v D : ℕ) → idx b v < W b → entryAt b m s1 (current b m) v ≡ 1 → pageOf b (entryAt b m pt (current b m) v) ≡ D
+      → DelPre (i .state) (current b m) D × (headV (i .state .chain D) ≡ v)
+  child-pre v D l e d =
+      let A = i .state in
+      let read : (k : Kind) → entryAt b m k (current b m) v ≡ cell b A k (current b m) v
+      = λ k. entry-is wide (i .N) fl A (i .wf) (fixed b (i .N)) m (i .words) k (current b m) v (live wide m i) l in
+      let x = child-view wide (i .N) fl A (i .wf) (current b m) v (sym (read s1) ∙ e) in
       let y : x .0 ≡ D = sym (x .2 .page) ∙ sym (ap (pageOf b) (read pt)) ∙ d in
-      let c : i .state .chain D ≡ x .2 .hop ∷ x .2 .rest = ap (i .state .chain) (sym y) ∙ x .2 .is in
-      let pre : DelPre (i .state) (current b m) D = record { child = ap (i .state .role) (sym y) ∙ x .1; hop = x .2 .hop; rest = x .2 .rest; is = c; mine = x .2 .part; live = live wide m i; caller = sym (cur-is wide m i) } in
-      let u : headV (i .state .chain D) ≡ v = ap headV c ∙ x .2 .vp in
-      let words : Encodes b (i .N) (fixed b (i .N)) (delete b m (current b m) (addr b v)) (delA (i .state) D) = subst (λ (w : ℕ). Encodes b (i .N) (fixed b (i .N)) (delete b m (current b m) (addr b w)) (delA (i .state) D)) u
-      (deleted wide (i .N) fl (fixed b (i .N)) m (i .state) (i .wf) (i .words) (current b m) D pre (ap (λ (w : ℕ). pageOf b (entryAt b m pt (current b m) w)) u ∙ d)) in
-      moved b i _ (delA (i .state) D) (del-wf wide (i .N) fl (i .state) (i .wf) (current b m) D pre) (full D) (record { roots = i .root .roots; list = i .root .list; threes = i .root .threes }) words
+      let c : A .chain D ≡ x .2 .hop ∷ x .2 .rest = ap (A .chain) (sym y) ∙ x .2 .is in
+      let pre : DelPre A (current b m) D = record {
+        child = ap (A .role) (sym y) ∙ x .1;
+        hop = x .2 .hop;
+        rest = x .2 .rest;
+        is = c;
+        mine = x .2 .part;
+        live = live wide m i;
+        caller = sym (cur-is wide m i);
+      } in
+      (pre, ap headV c ∙ x .2 .vp)
 
-  pub keep-delete : (c : ℕ) → refusal b m (deletePartition c) ≡ 0 → Inv b (effect b m (deletePartition c))
-  unfolding refusals effect
-  keep-delete c e =
+  -- the child of a deletePartition that passes
+  pub record Deleting (c : ℕ) : Type 0 where
+    pub child : ℕ
+    pub pre : DelPre (i .state) (current b m) child
+    pub at : addr b (headV (i .state .chain child)) ≡ c
+    pub is : pageOf b (entryAt b m pt (current b m) (headV (i .state .chain child))) ≡ child
+
+  pub deleting : (c : ℕ) → refusal b m (deletePartition c) ≡ 0 → Deleting c
+  unfolding refusals
+  deleting c e =
       let x = passed (refusals b m (deletePartition c)) e in
       let g = good-page b c (x .1 .0) in
-      subst (λ (v : ℕ). Inv b (delete b m (current b m) v)) (g .is) (delete-child (pageOf b c) _ (g .fits) (a-child b m c (x .1 .1 .0)) refl)
+      let (pre, u) = child-pre (pageOf b c) _ (g .fits) (a-child b m c (x .1 .1 .0)) refl in
+      record { child = _; pre = pre; at = ap (addr b) u ∙ g .is; is = ap (λ (w : ℕ). pageOf b (entryAt b m pt (current b m) w)) u }
+
+  pub keep-delete : (c : ℕ) → refusal b m (deletePartition c) ≡ 0 → Inv b (effect b m (deletePartition c))
+  unfolding effect
+  keep-delete c e =
+      let x = deleting c e in
+      let o = current b m in
+      let f = fixed b (i .N) in
+      let words : Encodes b (i .N) f (delete b m o c) (delA (i .state) (x .child))
+      = subst (λ (w : ℕ). Encodes b (i .N) f (delete b m o w) (delA (i .state) (x .child))) (x .at)
+      (deleted wide (i .N) fl f m (i .state) (i .wf) (i .words) o (x .child) (x .pre) (x .is)) in
+      moved b i _ (delA (i .state) (x .child)) (del-wf wide (i .N) fl (i .state) (i .wf) o (x .child) (x .pre)) (full (x .child))
+      (record { roots = i .root .roots; list = i .root .list; threes = i .root .threes }) words

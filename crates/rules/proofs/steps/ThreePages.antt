@@ -62,7 +62,7 @@ module _ {b : ℕ} (wide : 6 ≤ b) (N : ℕ) (fl : ℕ → Option ℕ) (f : Lis
       go q j a β n (no e) = wipe-other wide m p q j β e ∙ en .says q j a β n
 
   -- a page that was returned has no word but 0
-  pub returned-zero : (x : First A o p) (j : ℕ) → j < W b → word b (returnPage b m o (addr b (x .hop .vp))) p j ≡ 0
+  pub returned-zero : (x : First A o p) (j : ℕ) → j < W b → word b (returnPage b true m o (addr b (x .hop .vp))) p j ≡ 0
   returned-zero x j β =
       let h = x .hop in
       let hs = x .rest in
@@ -96,7 +96,7 @@ module _ {b : ℕ} (wide : 6 ≤ b) (N : ℕ) (fl : ℕ → Option ℕ) (f : Lis
     A2 = setRole (setRole A (P pt) hand) (P s1) hand
 
     abbrev m2 : List ℕ
-    m2 = returnPage b (returnPage b m o (addr b (x pt .hop .vp))) o (addr b (x s1 .hop .vp))
+    m2 = returnPage b true (returnPage b true m o (addr b (x pt .hop .vp))) o (addr b (x s1 .hop .vp))
 
     -- two of them given, the third still blank
     record Two : Type 0 where
