@@ -1,6 +1,7 @@
 -- deletePartition, in the terms of the functions that it calls. Assumes nothing.
 use mathlib.Core.Path.{_≡_, refl, sym, ap, ap₂, _∙_}
 use mathlib.Core.List.{List, [], _∷_, _++_}
+use mathlib.Core.Bool.{true}
 use Prim.Native.Nat.{ℕ, zero, suc, _+_, _-_, _*_, _≤_, _<_}
 use native.Mathlib.Nat.{not-suc-le-zero, le-of-suc-le-suc}
 use native.Mathlib.Omega.{arith}
@@ -25,7 +26,7 @@ evens-more (v ∷ ws) (suc i) h =
     evens-more ws i (le-of-suc-le-suc h) ∙ ap (λ (j : ℕ). getD ws i 0 ∷ evens (drop j (v ∷ ws))) e
 
 module _ (b : ℕ) (m : List ℕ) (d : ℕ) (ws : List ℕ) (i : ℕ) where
-  pub returnEvens-more : i < length ws → returnAll b m d (evens (drop i ws)) ≡ returnAll b (returnPage b m d (getD ws i 0)) d (evens (drop (i + 2) ws))
+  pub returnEvens-more : i < length ws → returnAll b m d (evens (drop i ws)) ≡ returnAll b (returnPage b true m d (getD ws i 0)) d (evens (drop (i + 2) ws))
   returnEvens-more h = ap (λ (l : List ℕ). returnAll b m d l) (evens-more ws i h)
 
   pub returnEvens-end : length ws ≤ i → returnAll b m d (evens (drop i ws)) ≡ m
@@ -33,7 +34,7 @@ module _ (b : ℕ) (m : List ℕ) (d : ℕ) (ws : List ℕ) (i : ℕ) where
 
 returnAll-append : (b : ℕ) (m : List ℕ) (d : ℕ) (us vs : List ℕ) → returnAll b m d (us ++ vs) ≡ returnAll b (returnAll b m d us) d vs
 returnAll-append b m d [] vs = refl
-returnAll-append b m d (u ∷ us) vs = returnAll-append b (returnPage b m d u) d us vs
+returnAll-append b m d (u ∷ us) vs = returnAll-append b (returnPage b true m d u) d us vs
 
 -- ---- the effect
 

@@ -1,4 +1,4 @@
-// deletePartition: "clears shadow 1 of descriptor and all pages lent to it; returns its kernel pages and every lent page that is inaccessible".
+// deletePartition: "clears shadow 1 of descriptor and all pages lent to it; returns its kernel pages" and "every page lent to the child" (document 02, L3).
 use crate::releases::release_all;
 use answers::Answer;
 use pages::PhysicalPage;
@@ -28,14 +28,14 @@ fn listed_words(b: u32, m: &[u32], l: PhysicalPage) -> u32
     free - 1
 }
 
-// Returns the pages whose addresses stand first in each pair of ws.
+// Returns the kernel pages whose addresses stand first in each pair of ws.
 fn return_evens(b: u32, m: &mut [u32], d: PhysicalPage, ws: &[u32])
     requires { ⌜ Width b ⌝ }
     ensures { λ r. ⌜ now (m .exit) ≡ returnAll b (now (m .entry)) (d .0) (evens (now (ws .entry))) ⌝ }
 {
     let mut i = 0;
     while i < ws.len() {
-        moves::return_page(b, m, d, ws[i]);
+        moves::return_page(b, m, true, d, ws[i]);
         i += 2;
     }
 }

@@ -11,16 +11,14 @@ ghost use Rattle.rules.specs.Effects;
 ghost use Rattle.rules.specs.Effects.{releaseAll};
 ghost use Rattle.pages.specs.Width.{Width};
 
-// "every lent page that is inaccessible" is returned, "other lent pages keep their words".
+// A page lent to the child is returned. Whether it was a kernel page, of a partition below the child, is read before anything of it changes.
 fn release(b: u32, m: &mut [u32], d: PhysicalPage, a: u32)
     requires { ⌜ Width b ⌝ }
     ensures { λ r. ⌜ now (m .exit) ≡ Effects.release b (now (m .entry)) (d .0) a ⌝ }
 {
-    let w = pages::mapping(b, m, d, a);
+    let kernel = pages::accessible(pages::mapping(b, m, d, a)) == 0;
     pages::set_lent(b, m, d, a, 0);
-    if pages::accessible(w) == 0 {
-        moves::return_page(b, m, d, a);
-    }
+    moves::return_page(b, m, kernel, d, a);
 }
 
 // The page at address a, if it is lent to the child at c.

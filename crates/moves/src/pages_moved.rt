@@ -26,13 +26,20 @@ pub fn take_page(b: u32, m: &mut [u32], d: PhysicalPage, a: u32)
     mark(b, m, 0, d, a);
 }
 
-// "Return" a page: wipe it, and set it accessible in the same places.
-pub fn return_page(b: u32, m: &mut [u32], d: PhysicalPage, a: u32)
+// "Return" a page: "set it accessible as before, and wipe it if it was a kernel page or if the caller holds write" (document 02, L3). One that was no
+// kernel page is accessible already, and is not looked for in the ancestors.
+pub fn return_page(b: u32, m: &mut [u32], kernel: bool, d: PhysicalPage, a: u32)
     requires { ⌜ Width b ⌝ }
-    ensures { λ r. ⌜ now (m .exit) ≡ returnPage b (now (m .entry)) (d .0) a ⌝ }
+    ensures { λ r. ⌜ now (m .exit) ≡ returnPage b kernel (now (m .entry)) (d .0) a ⌝ }
 {
-    wipe_at(b, m, d, a);
-    mark(b, m, 1, d, a);
+    if kernel {
+        wipe_at(b, m, d, a);
+        mark(b, m, 1, d, a);
+        return;
+    }
+    if pages::has_rights(2, pages::mapping(b, m, d, a)) {
+        wipe_at(b, m, d, a);
+    }
 }
 
 // Takes the pages at the addresses vs, in order.
@@ -47,14 +54,14 @@ pub fn take_all(b: u32, m: &mut [u32], d: PhysicalPage, vs: &[u32])
     }
 }
 
-// Returns the pages at the addresses vs, in order.
+// Returns the kernel pages at the addresses vs, in order.
 pub fn return_all(b: u32, m: &mut [u32], d: PhysicalPage, vs: &[u32])
     requires { ⌜ Width b ⌝ }
     ensures { λ r. ⌜ now (m .exit) ≡ returnAll b (now (m .entry)) (d .0) (now (vs .entry)) ⌝ }
 {
     let mut i = 0;
     while i < vs.len() {
-        return_page(b, m, d, vs[i]);
+        return_page(b, m, true, d, vs[i]);
         i += 1;
     }
 }
