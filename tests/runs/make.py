@@ -23,8 +23,8 @@ def made(seed, count, pages, edition):
 
 def memories():
     s = sequences
-    out = s.barred() + s.unformatted() + s.deep() + s.eleven() + s.grandchildren() + s.asked() + s.rights() + s.together() + s.choices() + s.changes()
-    out += s.large_pages()
+    out = s.barred() + s.unformatted() + s.deep() + s.eleven() + s.grandchildren() + s.returned() + s.asked() + s.rights() + s.together() + s.choices()
+    out += s.changes() + s.large_pages()
     for runs in s.GUIDED:
         words, = {[64, 1024][edition] * pages for _, _, pages, edition in runs}
         out.append((words, [part for run in runs for part in s.guided(made(*run), run[3])]))

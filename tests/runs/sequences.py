@@ -28,9 +28,14 @@ def alone(calls):
 
 def down(base, pages, size=PAGE):
     """From pages in hand in a row: five make a child, three a three for it, the others are lent to it at directory index 1; then it is entered."""
-    at, loft = [base + size * k for k in range(pages)], size // 4 * size
+    return down_with(base, [3] * (pages - 8), size)
+
+
+def down_with(base, rights, size=PAGE):
+    """The same, with the rights of each page that is lent."""
+    at, loft = [base + size * k for k in range(8 + len(rights))], size // 4 * size
     return [[1] + at[:5], [12, at[5], at[6]], [12, at[6], at[7]], [6, base, loft, at[5]]] + \
-           [[3, page, base, loft + size * k, 3] for k, page in enumerate(at[8:])] + [[9, base]]
+           [[3, page, base, loft + size * k, r] for k, (page, r) in enumerate(zip(at[8:], rights))] + [[9, base]]
 
 
 def barred():
@@ -70,12 +75,29 @@ def eleven():
 
 
 def grandchildren():
-    """A child with two children of its own, a page lent through both levels; the root deletes the child. The page that was lent on keeps its words, the
-    kernel pages of the grandchildren come back wiped."""
+    """A child with two children of its own, a page lent through both levels; the root deletes the child. All that it lent comes back wiped: the page that was
+    lent on, the kernel pages of the grandchildren and what was in the child's hand."""
     calls = [[0, 0]] + down(PAGE, 30) + [[12, LOFT + PAGE * 20, 5], [1] + [LOFT + PAGE * k for k in (15, 16, 17, 18, 19)]] + down(LOFT, 15)
     calls += [[12, LOFT, 9], [10], [8, LOFT + 8 * PAGE], [4, LOFT, LOFT], [3, LOFT + 8 * PAGE, LOFT, LOFT, 1], [10], [4, PAGE, LOFT + 8 * PAGE],
               [8, PAGE * 9], [12, PAGE * 9, 1], [11, PAGE * 17], [11, PAGE * 29], [2, PAGE], [11, PAGE * 9], [11, PAGE * 17], [11, PAGE * 24], [11, PAGE * 29]]
     return [(40 * 64, alone(calls))]
+
+
+def returned():
+    """What a deleted child leaves (document 02, L3), on pages with words. With small pages the root has a child, that a child, and that one more. The first of
+    them deletes the second: what served the two below it and what it may write itself comes back wiped, though the second may not write some of it; what it
+    may not write keeps its words, also where it was lent on. Then the root deletes the first: it may write every page, so each that is still lent is wiped, and
+    one that was removed before is not. In a second memory the root deletes the first with all that is below it, and lends a page anew. With large pages there
+    is room for one child of the root: its two pages are wiped, one of them lent without write, and a page in hand keeps its words."""
+    held, lent_on = [3, 1, 3, 3, 5, 0, 2], [3, 1, 3, 1, 4, 0, 0]
+    words = [[12, PAGE * k + place, k + place] for k in range(25, 34) for place in (4, PAGE - 4)]
+    below = [[0, 0]] + words + down_with(PAGE, [3] * 16 + held + [1]) + down_with(LOFT, [3] * 8 + lent_on) + down_with(LOFT, [3, 1])
+    own, root = [[11, LOFT + PAGE * k + 4] for k in range(24)], [[11, PAGE * k + 4] for k in range(25, 34)]
+    small = below + [[10], [10]] + own + [[2, LOFT]] + own + [[10]] + root + [[4, PAGE, LOFT + PAGE * 20], [12, PAGE * 28 + 4, 6], [2, PAGE]] + root
+    whole = below + [[10]] * 3 + [[2, PAGE]] + root + down_with(PAGE, [0] * 16 + [1]) + [[11, LOFT + PAGE * 16 + 4]]
+    words = [[12, LARGE * k + place, k + place] for k in (9, 10, 11) for place in (4, LARGE - 4)]
+    large = [[0, 1]] + words + down_with(LARGE, [3, 1], LARGE) + [[10], [2, LARGE]] + [[11, LARGE * k + 4] for k in (9, 10, 11)]
+    return [(42 * 64, alone(small)), (42 * 64, alone(whole)), (20 * 1024, alone(large))]
 
 
 def asked():
