@@ -4,8 +4,8 @@
 
 T and F at every page count. Guided random calls at several sizes of both editions, and with changes from one to the other: answer and a hash of every word
 after each call. Changed words of a memory in use: the verdict on soundness. The slips of slips.txt and every refusal that the memory at their start can give,
-in both editions; the pages that asked.txt asks for, in both; the last virtual page of large.txt; and scripts for replay, good and bad. Prints what was
-compared; exits with 1 at the first difference."""
+in both editions; the pages that asked.txt asks for and those that a deleted child leaves in returned.txt, in both; the last virtual page of large.txt; and
+scripts for replay, good and bad. Prints what was compared; exits with 1 at the first difference."""
 import array, itertools, os, random, subprocess, sys, threading
 
 from antt import Program, ap, check_shortcuts
@@ -19,7 +19,7 @@ MORNING = [20, 15, 12, 1, 256, 512, 768, 1024, 1280, 5, 256, 4096, 12, 1536, 179
 
 
 def differ(what, ours, theirs):
-    print('DIFFERENT: %s\n  definitions: %s\n  second:      %s' % (what, ours, theirs))
+    print('DIFFERENT: %s\n  definitions: %s\n  second:      %s' % (what, ours, theirs), flush=True)
     os._exit(1)
 
 
@@ -192,6 +192,25 @@ def compare_listed(definitions, what, first, calls):
     return len(lines)
 
 
+def compare_unwritable(definitions, edition):
+    """What served the two partitions below the caller of returned.txt's first deletePartition, without write in the caller and in its child: no calls make
+    that, but it is sound. The call leaves what it leaves with write, but for these rights. By the definitions alone."""
+    first, calls = in_edition('returned.txt', edition)
+    calls = [c for c, _ in calls]
+    place = next(i for i, c in enumerate(calls) if c.startswith('2 '))
+    _, memory = run_file(definitions, [first] + calls[:place])
+    # The page tables of the caller and of its child are pages 14 and 22.
+    caller, child = range(WORDS[edition] * 14, WORDS[edition] * 14 + 16), range(WORDS[edition] * 22, WORDS[edition] * 22 + 8)
+    fewer = lambda m, places: [w & ~8 if i in places else w for i, w in enumerate(m)]
+    unwritable = fewer(fewer(memory, caller), child)
+    assert sum(a != b for a, b in zip(memory, unwritable)) == 24
+    delete = [int(x) for x in calls[place].split()]
+    said, after = definitions.call(unwritable, delete)
+    _, expected = definitions.call(memory, delete)
+    if not said.startswith('ok 0 ') or after != fewer(expected, caller):
+        differ('edition %d: kernel pages without write' % edition, said, 'ok 0, and words as with write')
+
+
 # The memory at the start of slips.txt, with six pages more lent to the child, two of them without write or read. For each call arguments that pass but where
 # only a refusal is wanted, in the root and in its child, and the kinds that take their places: bad addresses, unmapped, in hand, children, kernel pages, lent
 # ones; targets with and without tables, mapped or not; rights.
@@ -313,9 +332,12 @@ def main():
     d = Definitions()
     print('sizes: %d page counts agree' % compare_sizes(d))
     for edition in 0, 1:
-        for name in 'slips.txt', 'asked.txt':
+        for name in 'slips.txt', 'asked.txt', 'returned.txt':
             what = 'edition %d: %s' % (edition, name)
             print('%s: %d calls agree' % (what, compare_listed(d, what, *in_edition(name, edition))))
+        if edition == 0 or not quick:
+            compare_unwritable(d, edition)
+            print('edition %d: kernel pages without write are wiped' % edition)
         pairs, most = ((60, 1000), (20, 1))[edition] if quick else ((300, 1000), (100, 20))[edition]
         print('edition %d: refusals: %d calls agree' % (edition, compare_refusals(d, edition, pairs, most)))
     print('edition 1: the last virtual page: %d calls agree' % compare_listed(d, 'large.txt', *listed('large.txt', 1)))

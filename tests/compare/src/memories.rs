@@ -5,7 +5,7 @@ use crate::both::{follow, perform, verdict};
 use crate::records;
 use crate::tally::Tally;
 use second::calls::{format, found, ARGUMENTS};
-use second::damage::wide_damage;
+use second::damage::{unwritable_kernel_page, wide_damage};
 use second::geometry::*;
 use second::make::guide;
 use second::memory::Partition;
@@ -84,6 +84,25 @@ pub fn one_too_deep(mem: &[u32], line: &[u32], random: &mut Random, tally: &mut 
     let five = [1, 2, 3, 4, 5].map(|k| VPage::of(Edition::of(mem), line[k]));
     found(&mut copy, &Partition::current(mem), five);
     judge(&copy, random, tally).map_err(|text| format!("created all the same: {text}"))
+}
+
+/// A kernel page that the root alone may write, which no calls make: what the child has of empty tables is collected, and the child deleted.
+pub fn unwritable(mem: &[u32], random: &mut Random, tally: &mut Tally) -> Result<(), String> {
+    let Some((changes, child)) = unwritable_kernel_page(mem, random) else { return Ok(()) };
+    let (mut second, edition) = (mem.to_vec(), Edition::of(mem));
+    changes.into_iter().for_each(|(index, value)| second[index] = value);
+    tally.of(&second).judged(&broken(&second));
+    let mut result = verdict(&second, tally);
+    let caller = Partition::current(&second);
+    let own = caller.mapping(&second, VPage::of(edition, child)).map(|m| Partition::at(&second, m.page));
+    let indices = (0..edition.page_words()).filter(|&index| own.is_some_and(|own| own.has_three(&second, index)));
+    let targets = indices.map(|index| VPage::at(edition, index, 1).address(edition));
+    let lines: Vec<_> = targets.map(|target| vec![7, child, target]).chain([vec![2, child]]).collect();
+    let mut proved = second.clone();
+    for line in lines {
+        result = result.and_then(|()| perform(&mut proved, &mut second, &line, tally));
+    }
+    result.map_err(|text| format!("then write taken from a kernel page: {text}"))
 }
 
 /// Random words, all the same word, and words like the kernel's behind a good header, some 40 in a page. With large pages not each of them every time.

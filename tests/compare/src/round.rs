@@ -110,20 +110,23 @@ fn many_pages(pages: usize, random: &mut Random, tally: &mut Tally) -> Result<()
     result.map_err(|text| format!("then {pages} pages: {text}"))
 }
 
-/// A child is made of the last pages that were handed to the root and ends; another one has two pages, at the last virtual page and before it.
+/// A child is made of the last pages that were handed to the root and ends, with a page lent to it at the last virtual page; another one has two pages, there
+/// and before it.
 fn edge_calls(free: u32) -> Vec<Vec<u32>> {
     let page = |k: u32| VPage(k).address(LARGE);
     let (child, last) = (page(free), page(LARGE.virtual_pages() - 1));
     let create: Vec<u32> = std::iter::once(1).chain((free - 4..=free).rev().map(page)).collect();
-    vec![
-        vec![8, page(free)],
-        vec![8, page(free + 1)],
-        create.clone(),
-        vec![2, child],
+    let furnished = vec![
         create,
         vec![12, page(free - 5), page(free - 6)],
         vec![12, page(free - 6), page(2)],
         vec![6, child, last, page(free - 5)],
+    ];
+    let mut lines = vec![vec![8, page(free)], vec![8, page(free + 1)]];
+    lines.extend(furnished.clone());
+    lines.extend([vec![3, page(1), child, last, 1], vec![12, page(2) - 4, 5], vec![2, child], vec![11, page(2) - 4]]);
+    lines.extend(furnished);
+    lines.extend([
         vec![3, page(1), child, last, 7],
         vec![3, page(1), child, last, 5],
         vec![3, page(free - 7), child, last - page(1), 3],
@@ -136,7 +139,8 @@ fn edge_calls(free: u32) -> Vec<Vec<u32>> {
         vec![11, page(2) - 4],
         vec![4, child, last],
         vec![7, child, last],
-    ]
+    ]);
+    lines
 }
 
 fn pages_of(mem: &[u32]) -> usize {
@@ -157,6 +161,9 @@ fn between(
     }
     if random.once_in(50) {
         (0..4).try_for_each(|_| memories::changed(second, random, tally))?;
+    }
+    if random.once_in(50) {
+        memories::unwritable(second, random, tally)?;
     }
     if random.once_in(50) {
         (0..4).try_for_each(|_| records::compare(proved, random, tally))?;

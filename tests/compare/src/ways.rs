@@ -2,7 +2,7 @@
 
 use second::calls::{follow_chain, Answer};
 use second::geometry::*;
-use second::memory::{word, Mapping, Partition, IS_CHILD};
+use second::memory::{named_page, word, words_of, Mapping, Partition, IS_CHILD};
 use second::refusal::*;
 use second::sound::{is_lent, sound};
 use second::tree::tree;
@@ -19,12 +19,20 @@ struct Look<'a> {
     collected: Option<[u32; 2]>,
 }
 
+/// A page that is lent to a child which is deleted, or that serves it as a kernel page: as the caller has it, and the child where it is lent.
+struct Returned {
+    own: Mapping,
+    lent: Option<Mapping>,
+    lent_on: bool,
+    has_words: bool,
+}
+
 type Way = (&'static str, fn(&Look) -> bool);
 
 /// With large pages no address is too large.
 const TOO_LARGE: &str = "any call no 3: 2^20 or above";
 
-const WAYS: [Way; 44] = [
+const WAYS: [Way; 55] = [
     ("format ok: over a sound memory of the other edition", |l| {
         l.ok(0) && l.line[1] != l.edition.number && sound(l.mem).is_ok()
     }),
@@ -39,6 +47,33 @@ const WAYS: [Way; 44] = [
     ("deletePartition ok: the child has children", |l| {
         l.ok(2) && l.child().is_some_and(|c| children(l.mem, &c).next().is_some())
     }),
+    ("deletePartition ok: a lent page with words that the caller may write", |l| {
+        l.returns(|page| page.in_use() && page.writable())
+    }),
+    ("deletePartition ok: a lent page with words that the caller may not write", |l| {
+        l.returns(|page| page.in_use() && !page.writable())
+    }),
+    ("deletePartition ok: a lent page with words that the child may not write and the caller may", |l| {
+        l.returns(|page| page.in_use() && page.writable() && page.lent.is_some_and(|m| !may_write(m)))
+    }),
+    ("deletePartition ok: a page with words lent on to a grandchild, that the caller may write", |l| {
+        l.returns(|page| page.in_use() && page.lent_on && page.writable())
+    }),
+    ("deletePartition ok: a page with words lent on to a grandchild, that the caller may not write", |l| {
+        l.returns(|page| page.in_use() && page.lent_on && !page.writable())
+    }),
+    ("deletePartition ok: a page that serves a grandchild as a kernel page", |l| {
+        l.returns(|page| page.serves_below() && !page.lent_on)
+    }),
+    ("deletePartition ok: a page that serves a partition below a grandchild as a kernel page", |l| {
+        l.returns(|page| page.serves_below() && page.lent_on)
+    }),
+    ("deletePartition ok: a kernel page of the child that the caller may not write", |l| {
+        l.returns(|page| page.lent.is_none() && page.has_words && !page.writable())
+    }),
+    ("deletePartition ok: a kernel page below the child that the caller may not write", |l| {
+        l.returns(|page| page.serves_below() && !page.writable())
+    }),
     ("addVAddr no 6: a number above 7", |l| l.no(3, RIGHTS) && l.line[4] > ALL_RIGHTS),
     ("addVAddr no 6: rights 6", |l| l.no(3, RIGHTS) && l.line[4] == WRITE_EXECUTE),
     ("addVAddr no 6: rights 7", |l| l.no(3, RIGHTS) && l.line[4] == ALL_RIGHTS),
@@ -49,6 +84,7 @@ const WAYS: [Way; 44] = [
     ("addVAddr ok: at the last virtual page", |l| l.ok(3) && l.line[3] == l.last()),
     ("removeVAddr no 7: lent on by the child", |l| l.no(4, HAND) && l.target().is_some_and(|m| m.accessible)),
     ("removeVAddr no 7: taken by the child", |l| l.no(4, HAND) && l.target().is_some_and(|m| !m.accessible)),
+    ("removeVAddr ok: a page with words", |l| l.ok(4) && l.target().is_some_and(|m| has_words(l.mem, m.page))),
     ("prepare ok: the last directory index", |l| l.ok(6) && l.line[2] >= l.last_table()),
     ("prepare ok: the last virtual page as a link", |l| l.ok(6) && l.line[3] != l.last() && l.links_last()),
     ("prepare ok: the tenth three", |l| l.ok(6) && l.threes() == MOST_THREES - 1),
@@ -65,6 +101,7 @@ const WAYS: [Way; 44] = [
     ("prepare no 11: no address for the third page", |l| l.stops(CHAIN, 2) && !l.again()),
     ("prepare no 11: a page again", |l| l.no(6, CHAIN) && !l.stops(CHAIN, 3) && l.again()),
     ("prepare no 11: chain too long", |l| l.stops(CHAIN, 3)),
+    ("collect ok: a table that the caller may not write", |l| l.collects_unwritable()),
     ("mappedInChild ok: 0 for a page in hand", |l| l.ok(8) && l.answer == Ok(0)),
     ("mappedInChild ok: a lent page in the child's hand", |l| l.lent() == Some([true, false])),
     ("mappedInChild ok: a lent page that the child took", |l| l.lent() == Some([false, false])),
@@ -144,6 +181,35 @@ impl Look<'_> {
         self.child()?.mapping(self.mem, VPage::of(self.edition, self.line[2]))
     }
 
+    /// Delete passes, and such a page comes back by it.
+    fn returns(&self, such: impl Fn(&Returned) -> bool) -> bool {
+        self.ok(2) && self.child().is_some_and(|child| self.returned(&child).iter().any(such))
+    }
+
+    /// The kernel pages of the child, then the pages lent to it: on sound memory it maps each of these once.
+    fn returned(&self, child: &Partition) -> Vec<Returned> {
+        let page = |v: VPage, lent: Option<(VPage, Mapping)>| {
+            let own = self.caller.mapping(self.mem, v)?;
+            let lent_on = lent.is_some_and(|(at, _)| is_lent(child.shadow1(self.mem, at)));
+            Some(Returned { own, lent: lent.map(|lent| lent.1), lent_on, has_words: has_words(self.mem, own.page) })
+        };
+        let kernel = child.kernel_pairs(self.mem).into_iter().map(|pair| (pair.0, None));
+        let above = |at| VPage::of(self.edition, child.shadow2(self.mem, at));
+        let lent = child.mappings(self.mem).map(|(at, mapping)| (above(at), Some((at, mapping))));
+        kernel.chain(lent).filter_map(|(v, lent)| page(v, lent)).collect()
+    }
+
+    /// Collect passes, and the caller may not write one of the three tables.
+    fn collects_unwritable(&self) -> bool {
+        let of = |child: Partition| {
+            let index = VPage::of(self.edition, self.line[2]).directory_index(self.edition);
+            let tables = child.roots().map(|root| named_page(self.mem, root, index));
+            let mut three = child.list_pairs(self.mem).into_iter().filter(|pair| tables.contains(&pair.1));
+            three.any(|(v, _)| self.caller.mapping(self.mem, v).is_some_and(|own| !may_write(own)))
+        };
+        self.ok(7) && self.child().is_some_and(of)
+    }
+
     /// Prepare is refused so after so many pages of its chain have passed.
     fn stops(&self, refusal: u32, pages: usize) -> bool {
         self.no(6, refusal) && self.chain().len() == pages
@@ -184,6 +250,30 @@ impl Look<'_> {
         let of = |child: Partition| child.kernel_pairs(self.mem).into_iter().enumerate().any(is_it);
         self.no(8, KERNEL) && children(self.mem, &self.caller).any(of)
     }
+}
+
+impl Returned {
+    /// Lent and no kernel page, with words.
+    fn in_use(&self) -> bool {
+        self.lent.is_some() && self.own.accessible && self.has_words
+    }
+
+    /// A kernel page with words, of a partition below the child.
+    fn serves_below(&self) -> bool {
+        self.lent.is_some() && !self.own.accessible && self.has_words
+    }
+
+    fn writable(&self) -> bool {
+        may_write(self.own)
+    }
+}
+
+fn may_write(mapping: Mapping) -> bool {
+    mapping.rights & WRITE != 0
+}
+
+fn has_words(mem: &[u32], page: PPage) -> bool {
+    words_of(mem, page).iter().any(|&word| word != 0)
 }
 
 fn children<'a>(mem: &'a [u32], partition: &'a Partition) -> impl Iterator<Item = Partition> + 'a {

@@ -82,13 +82,15 @@ fn parent_of(mem: &[u32], descriptor: PPage) -> Option<PPage> {
 
 // Effects that several calls share.
 
-/// Wipes the page and sets or clears its accessible bit in the caller and each ancestor, following
-/// shadow 2: to "take" it clears the bit, to "return" it sets it.
-fn wipe(mem: &mut [u32], caller: &Partition, at: VPage, accessible: bool) {
+fn wipe(mem: &mut [u32], page: PPage) {
+    words_of_mut(mem, page).fill(0);
+}
+
+/// Sets or clears the page's accessible bit in the caller and each ancestor, following shadow 2.
+fn mark(mem: &mut [u32], caller: &Partition, at: VPage, accessible: bool) {
     let (mut own, mut v, edition) = (*caller, at, Edition::of(mem));
     for _ in 0..=MOST_DEPTH {
         if let Some(mapping) = own.mapping(mem, v) {
-            words_of_mut(mem, mapping.page).fill(0);
             set_table_word(mem, own.directory, v, Mapping { accessible, ..mapping }.encode(edition));
         }
         let Some(parent) = parent_of(mem, own.descriptor) else { break };
@@ -97,12 +99,21 @@ fn wipe(mem: &mut [u32], caller: &Partition, at: VPage, accessible: bool) {
     }
 }
 
+/// "Take": wipe, and clear accessible.
 fn take(mem: &mut [u32], caller: &Partition, at: VPage) {
-    wipe(mem, caller, at, false);
+    if let Some(mapping) = caller.mapping(mem, at) {
+        wipe(mem, mapping.page);
+    }
+    mark(mem, caller, at, false);
 }
 
-fn give_back(mem: &mut [u32], caller: &Partition, at: VPage) {
-    wipe(mem, caller, at, true);
+/// "Return" (document 02, L3): "set it accessible as before, and wipe it if it was a kernel page or if the caller holds write",
+/// both told by the memory before the call.
+fn give_back(mem: &mut [u32], caller: &Partition, at: VPage, page: PPage, wiped: bool) {
+    if wiped {
+        wipe(mem, page);
+    }
+    mark(mem, caller, at, true);
 }
 
 // Format and the calls, by number.
@@ -172,18 +183,17 @@ pub fn found(mem: &mut [u32], caller: &Partition, group: [VPage; 5]) {
 pub fn delete_partition(mem: &mut [u32], child: u32) -> Answer {
     let caller = caller_of(mem)?;
     let [at] = page_addresses(mem, [child])?;
-    // All that is read of the child is read before its pages are wiped.
+    // All of this is read before the first word changes: the child's kernel pages, and the caller's mapping of each page lent to
+    // it. A lent page that is inaccessible is a kernel page of a partition below the child.
     let kernel = child_at(mem, &caller, at)?.kernel_pairs(mem);
     let lent: Vec<_> = caller.mappings(mem).filter(|&(v, _)| caller.shadow1(mem, v) == child).collect();
     set_table_word(mem, caller.shadow1, at, 0);
-    for &(v, mapping) in &lent {
+    for (v, own) in lent {
         set_table_word(mem, caller.shadow1, v, 0);
-        if !mapping.accessible {
-            give_back(mem, &caller, v);
-        }
+        give_back(mem, &caller, v, own.page, !own.accessible || holds(own, WRITE));
     }
-    for (v, _) in kernel {
-        give_back(mem, &caller, v);
+    for (v, page) in kernel {
+        give_back(mem, &caller, v, page, true);
     }
     Ok(0)
 }
@@ -289,8 +299,8 @@ pub fn collect(mem: &mut [u32], child: u32, target: u32) -> Answer {
     list.copy_within(1 + 6 * (place + 1)..used, 1 + 6 * place);
     list[used - 6..used].fill(0);
     list[0] = used as u32 - 6;
-    for (v, _) in three {
-        give_back(mem, &caller, v);
+    for (v, page) in three {
+        give_back(mem, &caller, v, page, true);
     }
     set_word(mem, three[0].1, 0, three[1].0.address(edition));
     set_word(mem, three[1].1, 0, three[2].0.address(edition));

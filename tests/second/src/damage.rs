@@ -1,6 +1,6 @@
 //! Small guided changes to a sound memory, for comparing judgements of soundness.
 
-use crate::geometry::{Edition, PPage, VPage, EDITION, WRITE_EXECUTE};
+use crate::geometry::{Edition, PPage, VPage, EDITION, WRITE, WRITE_EXECUTE};
 use crate::memory::*;
 use crate::random::Random;
 use crate::tree::{tree, Node};
@@ -28,7 +28,7 @@ pub fn damage(mem: &[u32], random: &mut Random) -> Changes {
 /// Changes of any number of words: also those that one word or two seldom make, so that each sentence is broken alone.
 pub fn wide_damage(mem: &[u32], random: &mut Random) -> Changes {
     let nodes = tree(mem);
-    let wider = match random.below(16) {
+    let wider = match random.below(17) {
         0 => second_use(mem, &nodes, random),
         1 => other_order(mem, &nodes, random),
         2 => open_descriptor(mem, &nodes, random),
@@ -39,6 +39,7 @@ pub fn wide_damage(mem: &[u32], random: &mut Random) -> Changes {
         7 => second_mapping(mem, &nodes, random),
         8 => lost_mapping(mem, &nodes, random),
         9 => write_and_execute(mem, &nodes, random),
+        10 => unwritable_kernel_page(mem, random).map(|(changes, _)| changes),
         _ => None,
     };
     wider.unwrap_or_else(|| damage(mem, random))
@@ -69,18 +70,40 @@ fn open_descriptor(mem: &[u32], nodes: &[Node], random: &mut Random) -> Option<C
     Some(raised(mem, nodes, place, at, ACCESSIBLE))
 }
 
-/// Sets these bits in the mapping of v in the partition at this place of the tree, and in that page's mappings in its ancestors.
-fn raised(mem: &[u32], nodes: &[Node], mut place: usize, mut v: VPage, bits: u32) -> Changes {
-    let (mut changes, edition) = (Vec::new(), Edition::of(mem));
+/// The indices of the page table words of v in the partition at this place of the tree, and of that page in its ancestors, the root last.
+fn mapping_words(mem: &[u32], nodes: &[Node], mut place: usize, mut v: VPage) -> Vec<usize> {
+    let (mut indices, edition) = (Vec::new(), Edition::of(mem));
     loop {
         let Node { partition, parent, .. } = &nodes[place];
         let table = named_page(mem, partition.directory, v.directory_index(edition));
-        let index = start(mem, table) + v.table_index(edition);
-        changes.push((index, mem[index] | bits));
+        indices.push(start(mem, table) + v.table_index(edition));
         v = VPage::of(edition, partition.shadow2(mem, v));
-        let Some((above, _)) = *parent else { break changes };
+        let Some((above, _)) = *parent else { break indices };
         place = above;
     }
+}
+
+/// Sets these bits in the mapping of v in the partition at this place of the tree, and in that page's mappings in its ancestors.
+fn raised(mem: &[u32], nodes: &[Node], place: usize, v: VPage, bits: u32) -> Changes {
+    mapping_words(mem, nodes, place, v).into_iter().map(|index| (index, mem[index] | bits)).collect()
+}
+
+/// Takes write from a kernel page in every partition that maps it but the root, and makes one of these current. No calls make such memory; it is sound.
+/// With the changes, the address in that partition of its child that the page serves or that is above the one it serves.
+pub fn unwritable_kernel_page(mem: &[u32], random: &mut Random) -> Option<(Changes, u32)> {
+    let (nodes, edition) = (tree(mem), Edition::of(mem));
+    let deep: Vec<usize> = (0..nodes.len()).filter(|&place| nodes[place].depth > 1).collect();
+    let mut place = random.pick(&deep)?;
+    let (v, _) = random.pick(&nodes[place].partition.kernel_pairs(mem))?;
+    let mut words = mapping_words(mem, &nodes, nodes[place].parent?.0, v);
+    words.pop();
+    let mut changes: Changes = words.into_iter().map(|index| (index, mem[index] & !(4 * WRITE))).collect();
+    for _ in 0..random.below(nodes[place].depth - 1) {
+        place = nodes[place].parent?.0;
+    }
+    let (above, child) = nodes[place].parent?;
+    changes.push((CURRENT, nodes[above].partition.descriptor.address(edition)));
+    Some((changes, child.address(edition)))
 }
 
 /// Exchanges two pairs of a listed three, so that it stands at no index in that order.

@@ -29,7 +29,8 @@ pub fn guide(mem: &mut [u32], random: &mut Random, count: usize, show: impl FnMu
     while maker.left > 0 {
         match maker.random.below(20) {
             0..=7 => maker.mix(60),
-            8 | 9 => maker.dig(3, true),
+            8 => maker.dig(3, true),
+            9 => maker.dig_and_end(),
             10 | 11 => maker.dig_deep(),
             12 | 18 => maker.fill(),
             13 | 14 => maker.tear(),
@@ -289,9 +290,24 @@ impl<Show: FnMut(&[u32], Answer, &[u32])> Maker<'_, Show> {
             for (page, slot) in pages.into_iter().zip(slots) {
                 let fewer = loose && self.random.once_in(3) || self.random.once_in(40);
                 let some = if fewer { self.random.below(6) as u32 } else { READ + WRITE };
+                // Words that the child's end wipes, or leaves to a caller that may not write them.
+                if loose && self.random.once_in(4) && self.rights(page) & WRITE != 0 {
+                    let (place, word) = (4 * self.random.below(words) as u32, self.random.draw() as u32);
+                    self.say(&[12, page + place, word]);
+                }
                 self.say(&[3, page, a, slot, self.rights(page) & some]);
             }
             self.say(&[9, a]);
+        }
+    }
+
+    /// Some levels down, up again, and a child deleted there with all that it was lent: below the root, too.
+    fn dig_and_end(&mut self) {
+        self.dig(3, true);
+        let levels = 1 + self.random.below(3);
+        self.climb(levels);
+        if let Some(child) = self.random.pick(&self.children()) {
+            self.say(&[2, child]);
         }
     }
 

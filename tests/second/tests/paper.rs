@@ -3,8 +3,9 @@
 mod common;
 use common::*;
 use second::calls::*;
-use second::geometry::{PPage, Sizes, VPage, SMALL};
-use second::memory::{table_word, word, Partition, ROOT_PAGE};
+use second::geometry::{Edition, PPage, Sizes, VPage, EDITIONS, SMALL, WRITE};
+use second::memory::{set_table_word, table_word, word, words_of, Mapping, Partition, ROOT_PAGE};
+use second::sound::sound;
 
 #[test]
 fn sizes() {
@@ -227,4 +228,126 @@ fn rights_never_grow() {
     assert_eq!(say(&mut mem, &[3, at(1), at(2), LOFT, 2]), Err(6));
     assert_eq!(say(&mut mem, &[3, at(1), at(2), LOFT, 1]), Err(8));
     assert_eq!(say(&mut mem, &[6, at(2), LOFT, at(14)]), Err(6));
+}
+
+/// By these rights the root lends its pages 25 to 31 to its child, and that lends them on to its own child.
+const LENT_ON: [[u32; 2]; 7] = [[3, 3], [1, 1], [3, 3], [3, 1], [5, 4], [0, 0], [2, 0]];
+
+/// The root has a child, that a child, and that one more, which is current. Of the root's pages 1 to 8 serve the first of them, 9 to 16 the second and 17
+/// to 24 the third; 25 to 31 are lent to the second, 25 and 26 of them also to the third; 32 is in the first one's hand and 33 in the root's. From 25 on
+/// they have words.
+fn three_below(edition: Edition) -> Vec<u32> {
+    let (mut mem, size) = (formatted_as(edition, 42), edition.page_bytes());
+    for page in 25..=33 {
+        write_words(edition, &mut mem, size * page);
+    }
+    let lent = |level: usize| LENT_ON.map(|rights| rights[level]);
+    down_with(edition, &mut mem, size, &[&[3; 16][..], &lent(0), &[1]].concat());
+    down_with(edition, &mut mem, loft(edition), &[&[3; 8][..], &lent(1)].concat());
+    down_with(edition, &mut mem, loft(edition), &[3, 1]);
+    mem
+}
+
+/// Words at both ends of a page.
+fn write_words(edition: Edition, mem: &mut [u32], page: u32) {
+    pass(mem, &[&[12, page, 7], &[12, page + 4, page], &[12, page + edition.page_bytes() - 4, 9]]);
+}
+
+/// The words of a page of the root's, where that has one three.
+fn root_words(mem: &[u32], page: u32) -> &[u32] {
+    words_of(mem, PPage(8 + page))
+}
+
+fn is_wiped(mem: &[u32], page: u32) -> bool {
+    root_words(mem, page).iter().all(|&word| word == 0)
+}
+
+/// Document 02, L3. The caller holds write on the lent pages 25, 27, 28 and 31; its child does on 25 and 27. 32 was not lent to the child.
+#[test]
+fn a_caller_below_the_root_keeps_what_it_may_not_write() {
+    for edition in EDITIONS {
+        let mut mem = three_below(edition);
+        pass(&mut mem, &[&[10], &[10]]);
+        let before = mem.clone();
+        assert_eq!(delete_partition(&mut mem, loft(edition)), Ok(0));
+        for page in 9..=33 {
+            if [26, 29, 30, 32, 33].contains(&page) {
+                assert!(!is_wiped(&mem, page) && root_words(&mem, page) == root_words(&before, page), "{page}");
+            } else {
+                assert!(is_wiped(&mem, page) && (page < 25 || !is_wiped(&before, page)), "{page}");
+            }
+        }
+        // All are in the caller's hand, with the rights that it held, and accessible in the root.
+        let (child, root) = (Partition::at(&mem, PPage(9)), Partition::at(&mem, ROOT_PAGE));
+        let rights = |mem: &[u32]| -> Vec<_> { child.mappings(mem).map(|(v, m)| (v, m.page, m.rights)).collect() };
+        assert_eq!(rights(&mem), rights(&before));
+        assert!(child.mappings(&mem).all(|(v, _)| child.in_hand(&mem, v)));
+        assert!((9..=33).all(|page| root.mapping(&mem, VPage(page)).is_some_and(|m| m.accessible)));
+        assert_eq!(sound(&mem), Ok(()));
+    }
+}
+
+/// Document 02, L3. The root holds write on every page: what was lent is wiped, whatever rights it was lent with and however far below it is used.
+#[test]
+fn the_root_wipes_all_that_was_lent() {
+    for edition in EDITIONS {
+        // As format leaves it, but for the page that was never lent.
+        let mut expected = formatted_as(edition, 42);
+        write_words(edition, &mut expected, 33 * edition.page_bytes());
+        // With all that is below the child; and once that has ended its own child.
+        for lines in [&[&[10u32][..], &[10], &[10]][..], &[&[10], &[10], &[2, loft(edition)], &[10]]] {
+            let mut mem = three_below(edition);
+            pass(&mut mem, lines);
+            assert_eq!(delete_partition(&mut mem, edition.page_bytes()), Ok(0));
+            assert!(mem == expected);
+        }
+    }
+}
+
+/// Document 02, L3: "wipe it if it was a kernel page". No calls take write from one, but memory in which it is gone is sound.
+#[test]
+fn kernel_pages_are_wiped_without_write() {
+    for edition in EDITIONS {
+        let (loft, size) = (loft(edition), edition.page_bytes());
+        let mut mem = three_below(edition);
+        // Pages 9 to 24 in the first below the root, of which the second has 17 to 24.
+        for (descriptor, pages) in [(PPage(9), 16), (PPage(17), 8)] {
+            let own = Partition::at(&mem, descriptor);
+            for v in (0..pages).map(|k| VPage::of(edition, loft + size * k)) {
+                let mapping = own.mapping(&mem, v).unwrap();
+                let fewer = Mapping { rights: mapping.rights & !WRITE, ..mapping };
+                set_table_word(&mut mem, own.directory, v, fewer.encode(edition));
+            }
+        }
+        assert_eq!(sound(&mem), Ok(()));
+        // The second collects the third's tables.
+        pass(&mut mem, &[&[10], &[4, loft, loft], &[4, loft, loft + size]]);
+        assert_eq!(collect(&mut mem, loft, loft), Ok(loft + 5 * size));
+        for (page, link) in [(22, loft + 6 * size), (23, loft + 7 * size), (24, 0)] {
+            let words = root_words(&mem, page);
+            assert!(words[0] == link && words[1..].iter().all(|&word| word == 0), "{page}");
+        }
+        // The first deletes the second, and the third with it. 22 to 24 are no kernel pages any more, and keep their links.
+        pass(&mut mem, &[&[10]]);
+        let before = mem.clone();
+        assert!([9, 17].iter().all(|&page| !is_wiped(&before, page)));
+        assert_eq!(delete_partition(&mut mem, loft), Ok(0));
+        assert!((9..=21).all(|page| is_wiped(&mem, page)));
+        assert!((22..=24).all(|page| root_words(&mem, page) == root_words(&before, page)));
+        assert_eq!(sound(&mem), Ok(()));
+    }
+}
+
+/// Document 02, L3: "removeVAddr stays". What is taken back keeps its words, and is no lent page any more when the child is deleted.
+#[test]
+fn a_page_that_is_removed_keeps_its_words() {
+    for edition in EDITIONS {
+        let (mut mem, size, loft) = (formatted_as(edition, 20), edition.page_bytes(), loft(edition));
+        down_with(edition, &mut mem, size, &[3, 3]);
+        pass(&mut mem, &[&[12, loft, 5], &[12, loft + size, 6], &[10]]);
+        assert_eq!(say(&mut mem, &[4, size, loft]), Ok(9 * size));
+        assert_eq!(say(&mut mem, &[2, size]), Ok(0));
+        assert_eq!(say(&mut mem, &[11, 9 * size]), Ok(5));
+        assert_eq!(say(&mut mem, &[11, 10 * size]), Ok(0));
+    }
 }

@@ -4,10 +4,10 @@ mod common;
 use common::*;
 use second::calls::found;
 use second::cover::Cover;
-use second::damage::{damage, wide_damage};
-use second::geometry::{PPage, Sizes, VPage, EDITIONS, LARGE, SMALL};
+use second::damage::{damage, unwritable_kernel_page, wide_damage};
+use second::geometry::{Edition, PPage, Sizes, VPage, EDITIONS, LARGE, SMALL, WRITE};
 use second::make::make;
-use second::memory::Partition;
+use second::memory::{words_of, Partition};
 use second::random::Random;
 use second::sound::{broken, numbers, sound};
 use second::tree::tree;
@@ -54,6 +54,69 @@ fn every_call_keeps_the_memory_sound() {
             let changes = answer.is_ok() && !matches!(line[0], 5 | 8 | 11);
             assert!(changes || mem == before, "{line:?}");
         }
+    }
+}
+
+/// How often a page came back from a deleted child, by what it was: a kernel page of the child, one of a partition below it, both again where the caller
+/// may not write them, a lent page with words that it may write, and one with words that it may not.
+type Returned = [u32; 6];
+
+/// What a deletePartition that passed left, given the memory before it: no page is returned twice; each is in the caller's hand, and wiped unless it was
+/// no kernel page and the caller may not write it; but for the tables of the caller and its ancestors no other word changes.
+fn check_returned(before: &[u32], child: u32, mem: &[u32], returned: &mut Returned) {
+    let (caller, edition) = (Partition::current(before), Edition::of(before));
+    let is_zero = |words: &[u32]| words.iter().all(|&word| word == 0);
+    let own = |v: VPage| caller.mapping(before, v).unwrap();
+    let kernel = Partition::at(before, own(VPage::of(edition, child)).page).kernel_pairs(before);
+    let lent = caller.mappings(before).map(|(v, _)| v).filter(|&v| caller.shadow1(before, v) == child);
+    let all: Vec<(VPage, bool)> = kernel.iter().map(|pair| (pair.0, true)).chain(lent.map(|v| (v, false))).collect();
+    let pages: BTreeSet<PPage> = all.iter().map(|&(v, _)| own(v).page).collect();
+    assert_eq!(pages.len(), all.len(), "a page is returned twice");
+    for (v, of_child) in all {
+        let (writable, was_kernel) = (own(v).rights & WRITE != 0, of_child || !own(v).accessible);
+        let (old, new) = (words_of(before, own(v).page), words_of(mem, own(v).page));
+        assert!(caller.in_hand(mem, v));
+        assert!(if was_kernel || writable { is_zero(new) } else { new == old });
+        let kinds = [of_child, was_kernel && !of_child, of_child && !writable, was_kernel && !of_child && !writable];
+        let kinds = kinds.into_iter().chain([true, false].map(|kind| !was_kernel && !is_zero(old) && writable == kind));
+        returned.iter_mut().zip(kinds).for_each(|(count, met)| *count += u32::from(met));
+    }
+    let nodes = tree(before);
+    let place = nodes.iter().position(|node| node.partition == caller);
+    let places = std::iter::successors(place, |&place| nodes[place].parent.map(|parent| parent.0));
+    let tables = places.flat_map(|place| nodes[place].partition.list_pairs(before));
+    let tables: BTreeSet<PPage> = tables.map(|pair| pair.1).collect();
+    for page in (0..Sizes::of(mem).unwrap().pages).map(PPage) {
+        let may_change = pages.contains(&page) || tables.contains(&page);
+        assert!(may_change || words_of(mem, page) == words_of(before, page), "{page:?}");
+    }
+}
+
+#[test]
+fn what_a_deleted_child_leaves() {
+    for edition in EDITIONS {
+        let (mut returned, mut unwritable, mut random) = (Returned::default(), Returned::default(), Random::new(13));
+        for (seed, pages, count) in [(1, 20, 1000), (2, 60, 3000), (3, 110, 3000)] {
+            let mut mem = formatted_as(edition, pages);
+            for line in make(edition, seed, count, pages) {
+                let before = mem.clone();
+                if say(&mut mem, &line).is_ok() && line[0] == 2 {
+                    check_returned(&before, line[1], &mem, &mut returned);
+                }
+                // At times in memory that no calls make.
+                if let Some((changes, child)) = unwritable_kernel_page(&mem, &mut random).filter(|_| line[0] == 9) {
+                    let mut copy = mem.clone();
+                    changes.into_iter().for_each(|(index, value)| copy[index] = value);
+                    assert_eq!(sound(&copy), Ok(()));
+                    let before = copy.clone();
+                    pass(&mut copy, &[&[2, child]]);
+                    check_returned(&before, child, &copy, &mut unwritable);
+                    assert_eq!(sound(&copy), Ok(()));
+                }
+            }
+        }
+        assert!(returned[2..4] == [0, 0] && [0, 1, 4, 5].iter().all(|&kind| returned[kind] > 9), "{returned:?}");
+        assert!(unwritable.iter().all(|&count| count > 9), "{unwritable:?}");
     }
 }
 

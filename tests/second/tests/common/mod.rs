@@ -2,7 +2,7 @@
 #![allow(dead_code)]
 
 use second::calls::*;
-use second::geometry::{Edition, SMALL};
+use second::geometry::{Edition, VPage, SMALL};
 
 /// A freshly formatted memory of small pages.
 pub fn formatted(pages: usize) -> Vec<u32> {
@@ -40,11 +40,22 @@ pub const LOFT: u32 = 1 << 14;
 /// From a run of pages in hand at `base`: five make a child, three a three for it, the rest are
 /// lent to it at LOFT; then it is entered.
 pub fn down(mem: &mut [u32], base: u32, pages: u32) {
-    let at = |k: u32| base + 256 * k;
+    down_with(SMALL, mem, base, &vec![3; pages as usize - 8]);
+}
+
+/// The first address of directory index 1: LOFT with small pages.
+pub fn loft(edition: Edition) -> u32 {
+    VPage::at(edition, 1, 0).address(edition)
+}
+
+/// The same in any edition, the pages behind the first eight lent with these rights.
+pub fn down_with(edition: Edition, mem: &mut [u32], base: u32, rights: &[u32]) {
+    let (size, loft) = (edition.page_bytes(), loft(edition));
+    let at = |k: u32| base + size * k;
     pass(mem, &[&[1, at(0), at(1), at(2), at(3), at(4)]]);
-    assert_eq!(furnish(mem, base, LOFT, [at(5), at(6), at(7)]), Ok(0));
-    for k in 8..pages {
-        pass(mem, &[&[3, at(k), base, LOFT + 256 * (k - 8), 3]]);
+    assert_eq!(furnish(mem, base, loft, [at(5), at(6), at(7)]), Ok(0));
+    for (k, &rights) in (0..).zip(rights) {
+        pass(mem, &[&[3, at(8 + k), base, loft + size * k, rights]]);
     }
     pass(mem, &[&[9, base]]);
 }
