@@ -80,8 +80,9 @@ uint32_t tumashqin_format(uint32_t *words, size_t length, uint32_t edition);
 uint64_t tumashqin_create_partition(uint32_t *words, size_t length, uint32_t descriptor, uint32_t directory, uint32_t shadow1,
                                     uint32_t shadow2, uint32_t list);
 
-/* 2. Ends a child. Its kernel pages and every lent page that is inaccessible come back wiped; other lent pages keep their words.
- * Refusals: DAMAGED, ADDRESS, CHILD. */
+/* 2. Ends a child, and all below it. Its kernel pages and every page lent to it come back to the caller's hand. A lent page that the caller may not write
+ * keeps its words, unless it was a kernel page of a partition below the child; the child's rights do not count. All others are wiped. The root may write
+ * every page. Refusals: DAMAGED, ADDRESS, CHILD. */
 uint64_t tumashqin_delete_partition(uint32_t *words, size_t length, uint32_t child);
 
 /* 3. Lends a page to a child: maps it at target there, with these rights.
@@ -89,7 +90,7 @@ uint64_t tumashqin_delete_partition(uint32_t *words, size_t length, uint32_t chi
  * Refusals: DAMAGED, ADDRESS, RIGHTS (6 or above), CHILD, HAND, RIGHTS (not held), TABLE, TAKEN. */
 uint64_t tumashqin_add_vaddr(uint32_t *words, size_t length, uint32_t page, uint32_t child, uint32_t target, uint32_t rights);
 
-/* 4. Takes a lent page back from a child. Its word is the page's address in the caller.
+/* 4. Takes a lent page back from a child. Its word is the page's address in the caller. The page keeps its words.
  * Refusals: DAMAGED, ADDRESS, CHILD, TABLE, UNMAPPED, HAND. */
 uint64_t tumashqin_remove_vaddr(uint32_t *words, size_t length, uint32_t child, uint32_t target);
 

@@ -21,8 +21,8 @@ pub fn verdict(words: &[u32]) -> Result<(), Refusal> {
 /// A memory: lent words, and the calls on them.
 ///
 /// The caller of a call is the current partition. Addresses are virtual, in the caller; a target is one in the child, and a child is
-/// named by its descriptor's address in the caller. Pages that are returned are wiped, and in the caller's hand again. A call answers 0
-/// unless said; one that refuses changes no word.
+/// named by its descriptor's address in the caller. A page that is returned is in the caller's hand again, and wiped if it was a kernel
+/// page or if the caller may write it. A call answers 0 unless said; one that refuses changes no word.
 pub struct Memory<'a> {
     words: &'a mut [u32],
 }
@@ -66,7 +66,10 @@ impl<'a> Memory<'a> {
         })
     }
 
-    /// Call 2: returns the child's kernel pages, and every page lent to it that is inaccessible; other lent pages keep their words.
+    /// Call 2: ends the child, and all below it: returns its kernel pages and every page lent to it.
+    ///
+    /// A lent page that the caller may not write keeps its words, unless it was a kernel page of a partition below the child; the
+    /// child's rights do not count. All others come back wiped. The root may write every page.
     ///
     /// Refusals: Damaged, Address, Child.
     pub fn delete_partition(&mut self, child: u32) -> Result<u32, Refusal> {
@@ -84,7 +87,7 @@ impl<'a> Memory<'a> {
         answered(unsafe { raw::tumashqin_add_vaddr(words, length, page, child, target, rights) })
     }
 
-    /// Call 4: undoes [`Memory::add_vaddr`]; answers the caller's address.
+    /// Call 4: undoes [`Memory::add_vaddr`]; answers the caller's address. The page keeps its words.
     ///
     /// Refusals: Damaged, Address, Child, Table, Unmapped, Hand.
     pub fn remove_vaddr(&mut self, child: u32, target: u32) -> Result<u32, Refusal> {
