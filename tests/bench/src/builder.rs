@@ -7,6 +7,7 @@ use second::memory::{CURRENT, ROOT_PAGE};
 
 /// The directory index at which every child has its first three, so that virtual page 0 stands in none of its tables.
 const FIRST_INDEX: usize = 1;
+const READ: u32 = 1;
 const READ_WRITE: u32 = 3;
 
 /// A call, and how the memory just before it differs from the whole tree's.
@@ -118,8 +119,21 @@ impl Builder {
 
     /// Lends a page, as the child's page k.
     pub fn lend(&mut self, child: u32, k: usize) {
+        self.lend_with(child, k, READ_WRITE);
+    }
+
+    fn lend_with(&mut self, child: u32, k: usize, rights: u32) {
         let (page, target) = (self.take(), self.target(k));
-        self.call(3, &[page, child, target, READ_WRITE]);
+        self.call(3, &[page, child, target, rights]);
+    }
+
+    /// Lends all that is left: so many pages with read and write, and the others with read alone. Answers how many there are.
+    pub fn lend_rest(&mut self, child: u32, writable: usize) -> usize {
+        let lent = self.left();
+        for k in 0..lent {
+            self.lend_with(child, k, if k < writable { READ_WRITE } else { READ });
+        }
+        lent
     }
 
     /// Takes the child's page k back, lends it again and asks for it.
@@ -135,11 +149,22 @@ impl Builder {
         self.hands.push((0..pages).rev().map(|k| self.target(k)).collect());
     }
 
+    pub fn leave(&mut self) {
+        self.call(10, &[]);
+        self.hands.pop();
+    }
+
     /// Leaves as far as the root.
     pub fn climb(&mut self) {
         while self.hands.len() > 1 {
-            self.call(10, &[]);
-            self.hands.pop();
+            self.leave();
+        }
+    }
+
+    /// Writes a word in each page in hand.
+    pub fn write(&mut self) {
+        for page in self.hand().clone() {
+            self.call(12, &[page + self.edition.page_bytes() - 4, 77]);
         }
     }
 

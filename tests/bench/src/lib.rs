@@ -2,7 +2,6 @@
 
 pub mod builder;
 pub mod call;
-pub mod clock;
 pub mod damaged;
 pub mod library;
 pub mod measure;

@@ -2,7 +2,6 @@
 
 use crate::builder::Step;
 use crate::call::{Call, JUDGE};
-use crate::clock::Clock;
 use crate::ordinary::Answer;
 use crate::patch::Patch;
 use std::hint::black_box;
@@ -11,8 +10,8 @@ use std::time::{Duration, Instant};
 /// How often a version is called before the other has its turn: the first call warms the caches. A long memory needs some more until it is in them.
 const TURN: usize = 4;
 const LONG_TURN: usize = 8;
-/// The most words of a memory that is not long. Calls on a long one take so long that they are timed by the thread's processor time, and in so many times
-/// the time of others, since other work on the machine changes what the caches hold of it.
+/// The most words of a memory that is not long. Calls on a long one have so many times the time of others, since other work on the machine interrupts them
+/// and changes what the caches hold of it.
 const SHORT: usize = 1 << 15;
 const LONG_SHARE: u32 = 4;
 
@@ -38,7 +37,7 @@ struct Timed {
     before: Patch,
     /// The words that the call changes, as they were.
     changed: Patch,
-    clock: Clock,
+    turn: usize,
     least: [Duration; 2],
     /// Its part of the time, and what it has had of it.
     share: u32,
@@ -46,17 +45,10 @@ struct Timed {
 }
 
 impl Timed {
-    fn turn(&self) -> usize {
-        match self.clock {
-            Clock::Passed => TURN,
-            Clock::Thread => LONG_TURN,
-        }
-    }
-
     fn time(&mut self, version: fn(&Call, &mut [u32]) -> Answer, memory: &mut [u32]) -> Duration {
-        let start = self.clock.now();
+        let start = Instant::now();
         let answer = version(black_box(&self.call), black_box(memory));
-        let time = self.clock.now() - start;
+        let time = start.elapsed();
         let _ = black_box(answer);
         self.changed.apply(memory);
         time
@@ -67,7 +59,7 @@ impl Timed {
         self.before.exchange(memory);
         let versions: [fn(&Call, &mut [u32]) -> Answer; 2] = [Call::proved, Call::ordinary];
         for (k, version) in versions.into_iter().enumerate() {
-            for _ in 0..self.turn() {
+            for _ in 0..self.turn {
                 self.least[k] = self.least[k].min(self.time(version, memory));
             }
         }
@@ -90,9 +82,8 @@ pub struct Bench {
     rows: Vec<Timed>,
     /// A memory after a call, by either version.
     after: [Vec<u32>; 2],
-    /// What reading a clock adds to a time.
-    passed: Duration,
-    thread: Duration,
+    /// What reading the clock adds to a time.
+    cost: Duration,
 }
 
 impl Bench {
@@ -112,10 +103,10 @@ impl Bench {
         assert_eq!(answer, call.ordinary(other), "{call:?}");
         assert!(after == other, "{call:?}");
         let changed = Patch::between(memory, after);
-        let (clock, share) = if memory.len() > SHORT { (Clock::Thread, LONG_SHARE) } else { (Clock::Passed, 1) };
+        let (turn, share) = if memory.len() > SHORT { (LONG_TURN, LONG_SHARE) } else { (TURN, 1) };
         before.exchange(memory);
         let (least, spent) = ([Duration::MAX; 2], Duration::ZERO);
-        self.rows.push(Timed { call, answer, place, before, changed, clock, least, share, spent });
+        self.rows.push(Timed { call, answer, place, before, changed, turn, least, share, spent });
         Row(self.rows.len() - 1)
     }
 
@@ -132,7 +123,7 @@ impl Bench {
     /// Goes through all rows, at least once, for so long, each by its share of the time.
     pub fn run(&mut self, time: Duration) {
         let start = Instant::now();
-        (self.passed, self.thread) = (Clock::Passed.cost(), Clock::Thread.cost());
+        self.cost = cost();
         let shares: u32 = self.rows.iter().map(|timed| timed.share).sum();
         loop {
             for timed in &mut self.rows {
@@ -147,27 +138,24 @@ impl Bench {
     }
 
     pub fn times(&self, row: Row) -> Times {
-        let cost = self.cost(row);
-        let nanoseconds = |least: Duration| least.saturating_sub(cost).as_nanos().max(1) as f64;
+        let nanoseconds = |least: Duration| least.saturating_sub(self.cost).as_nanos().max(1) as f64;
         let [proved, ordinary] = self.rows[row.0].least.map(nanoseconds);
         Times { proved, ordinary }
     }
 
-    fn cost(&self, row: Row) -> Duration {
-        match self.rows[row.0].clock {
-            Clock::Passed => self.passed,
-            Clock::Thread => self.thread,
-        }
-    }
-
     /// Nanoseconds that reading the clock costs: of two times that differ by no more, neither is known to be the greater.
-    pub fn noise(&self, row: Row) -> f64 {
-        self.cost(row).as_nanos() as f64
+    pub fn noise(&self) -> f64 {
+        self.cost.as_nanos() as f64
     }
 
     pub fn answer(&self, row: Row) -> Answer {
         self.rows[row.0].answer
     }
+}
+
+/// What reading the clock adds to a time.
+fn cost() -> Duration {
+    (0..1000).map(|_| Instant::now().elapsed()).min().unwrap_or_default()
 }
 
 /// The judge on one memory, at a short look.

@@ -1,13 +1,16 @@
 //! Memories to measure on: trees of several shapes, each by a recipe for any number of pages of either edition.
 
 use crate::builder::{Builder, Step};
-use second::geometry::{Edition, LARGE};
+use second::geometry::{Edition, VPage, LARGE};
+use second::memory::{Mapping, Partition};
 use second::tree::tree;
 
 pub const MOST_DEPTH: usize = 8;
 const MOST_THREES: usize = 10;
 /// About as many pages as the partitions of one chain can use.
 const CHAIN: usize = 256;
+/// More pages than there can be.
+const ALL: usize = usize::MAX;
 
 /// A tree, and the calls that are measured on it.
 pub struct Scenario {
@@ -67,6 +70,13 @@ pub fn kernel_pages(memory: &[u32]) -> usize {
 /// Mappings of all partitions.
 pub fn mappings(memory: &[u32]) -> usize {
     tree(memory).iter().map(|node| node.partition.mappings(memory).count()).sum()
+}
+
+/// The caller's mappings of the pages that it has lent to the child at this address.
+pub fn lent_pages(memory: &[u32], child: u32) -> Vec<Mapping> {
+    let caller = Partition::current(memory);
+    let lent = |&(v, _): &(VPage, Mapping)| caller.shadow1(memory, v) == child;
+    caller.mappings(memory).filter(lent).map(|(_, mapping)| mapping).collect()
 }
 
 /// One child with as many threes as there are pages for: with 16 pages none.
@@ -174,5 +184,80 @@ pub fn down_to(level: usize, edition: Edition, pages: usize) -> Scenario {
     built.lend(child, 0);
     built.lend_again(child, 0);
     built.create();
+    Scenario::of(name, built, Some(child))
+}
+
+/// Children to which the caller, their parent, has lent all that it had left.
+pub const LENT: [Recipe; 5] = [lent, lent_deep, lent_deep_read_alone, lent_used_below, lent_deep_used_below];
+
+/// By the root.
+fn lent(edition: Edition, pages: usize) -> Scenario {
+    all_lent("lent by the root", caller_at(0, edition, pages), ALL)
+}
+
+/// By a caller whose child is at the deepest level.
+fn lent_deep(edition: Edition, pages: usize) -> Scenario {
+    all_lent("lent deep", caller_at(MOST_DEPTH - 1, edition, pages), ALL)
+}
+
+/// The same, but the caller has write only on the pages that it takes for the child, and read alone on those that it lends.
+fn lent_deep_read_alone(edition: Edition, pages: usize) -> Scenario {
+    let mut built = caller_at(MOST_DEPTH - 2, edition, pages);
+    let caller = child_for_rest(&mut built);
+    let taken = 5 + 3 * threes_for(edition, built.left() - 5);
+    let lent = built.lend_rest(caller, taken);
+    built.enter(caller, lent);
+    all_lent("lent deep, read alone", built, 0)
+}
+
+/// By the root, and the child has made of them as many children of its own as it could, so that nearly all are kernel pages.
+fn lent_used_below(edition: Edition, pages: usize) -> Scenario {
+    used_below("lent by the root, used below", caller_at(0, edition, pages))
+}
+
+/// The same by a caller whose grandchildren are at the deepest level.
+fn lent_deep_used_below(edition: Edition, pages: usize) -> Scenario {
+    used_below("lent deep, used below", caller_at(MOST_DEPTH - 2, edition, pages))
+}
+
+/// The caller is at this level, and has all that the partitions above it could lend on. Each page in hand has a word that is not 0.
+fn caller_at(level: usize, edition: Edition, pages: usize) -> Builder {
+    let mut built = Builder::new(edition, pages);
+    built.write();
+    for _ in 0..level {
+        let child = child_for_rest(&mut built);
+        let lent = built.lend_rest(child, ALL);
+        built.enter(child, lent);
+    }
+    built
+}
+
+/// A child with as few threes as it needs for all that is left.
+fn child_for_rest(built: &mut Builder) -> u32 {
+    let child = built.create();
+    built.prepare(child, threes_for(built.edition, built.left()));
+    child
+}
+
+/// As few as are enough to lend what is left of so many pages when the threes are taken.
+fn threes_for(edition: Edition, pages: usize) -> usize {
+    pages.div_ceil(edition.page_words() + 3)
+}
+
+/// The child has so many of the pages with write.
+fn all_lent(name: &'static str, mut built: Builder, writable: usize) -> Scenario {
+    let child = child_for_rest(&mut built);
+    built.lend_rest(child, writable);
+    Scenario::of(name, built, Some(child))
+}
+
+fn used_below(name: &'static str, mut built: Builder) -> Scenario {
+    let child = child_for_rest(&mut built);
+    let lent = built.lend_rest(child, ALL);
+    built.enter(child, lent);
+    while built.left() >= 5 {
+        built.create();
+    }
+    built.leave();
     Scenario::of(name, built, Some(child))
 }

@@ -2,10 +2,12 @@
 
 use bench::call::{Call, JUDGE, JUDGED_SOUND};
 use bench::library;
+use bench::scenario::{lent_pages, LENT};
 use second::calls::{call, ARGUMENTS};
 use second::damage::wide_damage;
-use second::geometry::{Edition, EDITION, EDITIONS, LARGE, SMALL};
+use second::geometry::{Edition, EDITION, EDITIONS, LARGE, SMALL, WRITE};
 use second::make::make;
+use second::memory::Mapping;
 use second::random::Random;
 use second::sound::sound;
 
@@ -24,25 +26,59 @@ const SIZES: [(Edition, usize, usize); 11] = [
     (LARGE, 73, 20),
 ];
 
-/// Guided random calls on all three, with every word compared after each; then what the caller does with the memory.
-fn all(edition: Edition, seed: u32, calls: usize, pages: usize, mut then: impl FnMut(&[u32])) {
+/// How a page comes back that was lent to a child that is deleted, by the caller's mapping: a kernel page, one wiped since the caller has write, and one kept.
+fn kind(own: &Mapping) -> usize {
+    match (own.accessible, own.rights & WRITE) {
+        (false, _) => 0,
+        (true, WRITE) => 1,
+        _ => 2,
+    }
+}
+
+/// Guided random calls on all three, with every word compared after each; then what the caller does with the memory. Answers how many lent pages of each kind
+/// came back.
+fn all(edition: Edition, seed: u32, calls: usize, pages: usize, mut then: impl FnMut(&[u32])) -> [usize; 3] {
+    let mut returned = [0; 3];
     let mut ordinary = vec![0; edition.page_words() * pages];
     let (mut proved, mut other) = (ordinary.clone(), ordinary.clone());
     for line in std::iter::once(vec![0, edition.number]).chain(make(edition, seed, calls, pages)) {
         let made = Call::new(line[0], &line[1..]);
+        let lent = if made.number == 2 { lent_pages(&ordinary, line[1]) } else { Vec::new() };
         let answer = made.ordinary(&mut ordinary);
         assert_eq!(answer, made.proved(&mut proved), "{line:?}");
         assert_eq!(Some(answer), call(&mut other, line[0], &line[1..]), "{line:?}");
         assert!(ordinary == proved, "{line:?}");
         assert!(ordinary == other, "{line:?}");
         then(&ordinary);
+        if answer.is_ok() {
+            lent.iter().for_each(|own| returned[kind(own)] += 1);
+        }
     }
+    returned
 }
 
 #[test]
 fn calls() {
+    let mut returned = [0; 3];
     for ((edition, pages, fewer), seed) in SIZES.into_iter().zip(1..) {
-        all(edition, seed, 6000 / fewer, pages, |_| ());
+        let counts = all(edition, seed, 6000 / fewer, pages, |_| ());
+        returned.iter_mut().zip(counts).for_each(|(sum, count)| *sum += count);
+    }
+    assert!(returned.iter().all(|&count| count > 50), "{returned:?}");
+}
+
+/// The end of a child to which many pages were lent.
+#[test]
+fn many_lent_pages() {
+    for scenario in EDITIONS.into_iter().flat_map(|edition| LENT.map(|recipe| recipe(edition, 256))) {
+        let step = scenario.last(2).expect("a child that is ended");
+        let before = step.memory(&scenario.whole);
+        let [mut ordinary, mut proved, mut other] = [(); 3].map(|()| before.clone());
+        assert_eq!(step.call.ordinary(&mut ordinary), Ok(0), "{}", scenario.title());
+        assert_eq!(step.call.proved(&mut proved), Ok(0), "{}", scenario.title());
+        assert_eq!(call(&mut other, 2, &step.call.arguments[..1]), Some(Ok(0)), "{}", scenario.title());
+        assert!(ordinary == proved, "{}", scenario.title());
+        assert!(ordinary == other, "{}", scenario.title());
     }
 }
 

@@ -19,6 +19,13 @@ fn tables() {
         assert!(table.rows.iter().all(|row| row.len() == table.head.len()), "{}", table.title);
         assert!(table.text().lines().count() > table.rows.len() && table.markdown().contains("|---|"));
     }
+    let deleting: Vec<_> = report.short.iter().filter(|table| table.title.starts_with("deletePartition")).collect();
+    assert_eq!(deleting.len(), 2);
+    for row in deleting.iter().flat_map(|table| &table.rows) {
+        let [title, lent, wiped] = [0, 1, 2].map(|k| row[k].as_str());
+        assert_ne!(lent, "0", "{title}");
+        assert_eq!(wiped, if title.ends_with("read alone") { "0" } else { lent }, "{title}");
+    }
     for wiping in report.short.iter().filter(|table| table.title.starts_with("Wiping")) {
         for row in &wiping.rows {
             assert!([&row[4], &row[8]].iter().all(|ratio| !ratio.starts_with('-')), "{row:?}");

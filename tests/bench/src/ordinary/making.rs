@@ -2,7 +2,7 @@
 
 use super::address::*;
 use super::memory::*;
-use super::moves::{give_back, take};
+use super::moves::{give_back, give_back_mapped, take};
 use super::partition::{pages_at, Partition};
 use super::refusal::*;
 
@@ -55,7 +55,7 @@ pub fn delete_partition<const W: usize>(m: &mut Memory<W>, child: u32) -> Answer
     Ok(0)
 }
 
-/// Ends the lending of all pages lent to the child at an address, and returns those that are inaccessible.
+/// Ends the lending of all pages lent to the child at an address, and returns them.
 fn call_in_lent<const W: usize>(m: &mut Memory<W>, caller: &Partition<W>, child: VPage<W>) {
     for i in 0..W {
         let (link, shadow1) = (m.page(caller.directory)[i], m.page(caller.shadow1)[i]);
@@ -66,9 +66,8 @@ fn call_in_lent<const W: usize>(m: &mut Memory<W>, caller: &Partition<W>, child:
             let lent_to = &mut m.page_mut(PPage::of(shadow1))[j];
             if *lent_to == child.address() {
                 *lent_to = 0;
-                if m.page(PPage::of(link))[j] & ACCESSIBLE == 0 {
-                    give_back(m, caller, VPage((i * W + j) as u32));
-                }
+                let word = m.page(PPage::of(link))[j];
+                give_back_mapped(m, caller, VPage((i * W + j) as u32), word);
             }
         }
     }

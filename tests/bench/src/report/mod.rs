@@ -2,6 +2,7 @@
 
 mod calls;
 mod damaged;
+mod deleting;
 mod growth;
 mod guided;
 pub mod stack;
@@ -12,6 +13,7 @@ use crate::scenario::*;
 use crate::table::Table;
 use calls::Calls;
 use damaged::Damages;
+use deleting::Deleting;
 use growth::Growth;
 use guided::Guided;
 use second::geometry::{Edition, EDITIONS, LARGE};
@@ -108,6 +110,7 @@ struct Measured {
     edition: Edition,
     calls: Vec<Calls>,
     wiping: Vec<Wiping>,
+    deleting: Vec<Deleting>,
     damages: Vec<Damages>,
     stacks: Vec<Stack>,
     growth: Growth,
@@ -131,6 +134,7 @@ impl Measured {
             edition,
             calls,
             wiping,
+            deleting: Deleting::all(edition, bench),
             damages,
             stacks,
             growth: Growth::new(edition, bench),
@@ -143,6 +147,7 @@ impl Measured {
         let mut short = vec![calls::summary(&self.calls, bench), self.guided.table(bench)];
         short.extend(self.growth.tables(bench));
         short.push(wiping::table(&self.wiping, bench));
+        short.push(deleting::table(&self.deleting, bench));
         short.push(damaged::table(&self.damages, bench));
         short.iter_mut().for_each(|table| table.title += suffix(self.edition));
         short.extend(self.stacks.iter().map(Stack::summary));
@@ -151,7 +156,8 @@ impl Measured {
 
     fn bars(&self, bench: &Bench) -> Vec<Bar> {
         let of = suffix(self.edition);
-        let figures = calls::figures(&self.calls, bench).chain(self.guided.figures(bench));
+        let deleting = deleting::figures(&self.deleting, bench);
+        let figures = calls::figures(&self.calls, bench).chain(self.guided.figures(bench)).chain(deleting);
         let mut bars = vec![Bar::new(format!("a call over the ordinary version's{of}"), MOST, figures)];
         bars.extend(self.growth.bars(bench));
         bars.push(damaged::bar(format!("damaged memory over the sound{of}"), &self.damages, bench));

@@ -1,11 +1,11 @@
-//! Wiping a page: createPartition takes five pages and deletePartition returns a child's, each wiped; the judge's cost is taken off.
+//! Wiping a page: createPartition takes five pages, and deletePartition returns a child's and those lent to it, each wiped; the judge's cost is taken off.
 
 use super::calls::Calls;
 use super::ratio;
 use crate::builder::Step;
 use crate::call::JUDGE;
 use crate::measure::{Bench, Place, Row};
-use crate::scenario::{kernel_pages, Scenario};
+use crate::scenario::{kernel_pages, lent_pages, Scenario};
 use crate::table::Table;
 
 /// A call that wipes pages, and the judge on the same memory.
@@ -19,8 +19,10 @@ impl Wiped {
     fn of(step: &Step, call: Row, scenario: &Scenario, place: Place, bench: &mut Bench) -> Wiped {
         let mut memory = step.memory(&scenario.whole);
         let before = kernel_pages(&memory);
+        // Pages lent to the child that ends, which were no kernel pages; in each scenario the caller holds write on them.
+        let lent = lent_pages(&memory, step.call.arguments[0]).iter().filter(|own| own.accessible).count();
         let _ = step.call.ordinary(&mut memory);
-        let pages = before.abs_diff(kernel_pages(&memory));
+        let pages = before.abs_diff(kernel_pages(&memory)) + lent;
         Wiped { pages, call, judge: bench.add(&Step { call: JUDGE, before: step.before.clone() }, place) }
     }
 
@@ -28,7 +30,7 @@ impl Wiped {
     fn cells(&self, bench: &Bench) -> [String; 4] {
         let (call, judge) = (bench.times(self.call), bench.times(self.judge));
         let [proved, ordinary] = [call.proved - judge.proved, call.ordinary - judge.ordinary];
-        let known = proved.min(ordinary) > bench.noise(self.call);
+        let known = proved.min(ordinary) > bench.noise();
         let share = if known { ratio(proved / ordinary) } else { String::new() };
         let page = |time: f64| format!("{:.1}", time / self.pages as f64);
         [self.pages.to_string(), page(proved), page(ordinary), share]
