@@ -22,10 +22,10 @@ use Rattle.rules.specs.Conditions.{damaged}
 use Rattle.rules.specs.Refusals.{refusals, refusal}
 use Rattle.rules.specs.Effects.{effect}
 use Rattle.rules.specs.Calls as C
-use Rattle.rules.specs.Editions.{answer, after, run, answers, nextEdition}
+use Rattle.rules.specs.Editions.{answer, after, run, answers, nextEdition, NoFormat}
 use Rattle.rules.proofs.Rows.{on, first-is, first-self}
 use Rattle.rules.proofs.steps.Formatted.{inv-format}
-use Rattle.rules.proofs.steps.Editions.{Held, edition-is, held-sound, left, held-step, NoFormat}
+use Rattle.rules.proofs.steps.Editions.{Held, edition-is, held-sound, left, held-step}
 use Rattle.cases.specs.Cases.{formatting, reached}
 use Rattle.cases.specs.Morning.{answersTo}
 

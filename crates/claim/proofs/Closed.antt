@@ -13,7 +13,7 @@ use Rattle.memory.specs.Uses.{Way, inHand, KernelWay, isFive, isListed, Use, Ke
 use Rattle.memory.specs.Sound.{Sound}
 use Rattle.soundness.proofs.Whole.{flat, small}
 
-not-hand : {w : Way} (v : ℕ) → KernelWay w → w ≢ inHand v
+pub not-hand : {w : Way} (v : ℕ) → KernelWay w → w ≢ inHand v
 not-hand v isFive e = let z : _≡_ {A = ℕ} 0 1 = cc in omega arith
 not-hand v isListed e = let z : _≡_ {A = ℕ} 0 1 = cc in omega arith
 

@@ -6,6 +6,7 @@ pub mod Sharing
 pub mod Closed
 pub mod Access
 pub mod Kept
+pub mod FromSound
 pub mod Permitted
 pub mod Demand3
 pub mod OneEdition

@@ -1,13 +1,13 @@
 -- The parts of a page table word. Assumes nothing.
 use mathlib.Core.Path.{_≡_, refl, sym, ap, ap₂, _∙_, subst}
-use mathlib.Core.Bool.{true, _&&_, false≢true}
+use mathlib.Core.Bool.{Bool, true, false, _&&_, false≢true}
 use Prim.Native.Nat.{ℕ, zero, suc, _+_, _-_, _*_, _/_, _%_, _^_, _≤_, _<_}
 use native.Mathlib.Nat.{mul-comm, mul-left-comm}
 use native.Mathlib.Omega.{arith}
 use lib.Arith.{digits-div}
 use lib.Bits.{bitAnd}
 use lib.Dec.{leb, eqb}
-use borrow.Author.Tests.{lt-leb}
+use borrow.Author.Tests.{leb-false, lt-leb}
 use lib.Pow.{pow-pos, pow-add}
 use Rattle.memory.specs.Geometry.{pageBytes, pageOf}
 use Rattle.memory.specs.Entry.{entry, accessible, rights, writeRight, executeRight, leastBoth, holds, writeAndExecute}
@@ -59,3 +59,11 @@ both-rights w = both-from-6 (rights w) (omega arith)
 
 pub below-both : (w : ℕ) → rights w < leastBoth → ¬ ((holds writeRight w ≡ true) × (holds executeRight w ≡ true))
 below-both w h (x, y) = false≢true (sym (both-rights w ∙ lt-leb leastBoth (rights w) h) ∙ ap₂ _&&_ x y)
+
+pub not-both-below : (w : ℕ) → ¬ ((holds writeRight w ≡ true) × (holds executeRight w ≡ true)) → rights w < leastBoth
+not-both-below w n = leb-false leastBoth (rights w) (sym (both-rights w) ∙ go (holds writeRight w) refl (holds executeRight w) refl)
+  where
+    go : (x : Bool) → holds writeRight w ≡ x → (y : Bool) → holds executeRight w ≡ y → x && y ≡ false
+    go true p true q = absurd (n (p, q))
+    go true p false q = refl
+    go false p y q = refl

@@ -9,3 +9,5 @@ pub mod Accessible
 pub mod model
 pub mod sound
 pub mod steps
+pub mod Reading
+pub mod state

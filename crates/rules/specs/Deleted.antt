@@ -1,8 +1,8 @@
--- What deletePartition leaves of the pages that come back from the child: document 02, L3. Proved in proofs/steps/Deleted,
--- steps/Editions and Accessible. Assumes nothing.
+-- What deletePartition leaves of the pages that come back from the child: document 02, L3. Proved in proofs/state/Promises and proofs/Accessible.
+-- Assumes nothing.
 use mathlib.Core.Path.{_≡_}
 use mathlib.Core.Logic.{_⊎_}
-use mathlib.Core.List.{List, _∷_}
+use mathlib.Core.List.{List}
 use mathlib.Core.Bool.{true}
 use Prim.Native.Nat.{ℕ, suc, _<_}
 use Rattle.memory.specs.Edition.{width}
@@ -14,13 +14,11 @@ use Rattle.memory.specs.Partition.{current, mapping, lent}
 use Rattle.memory.specs.Tree.{Virtual, Has, InTree}
 use Rattle.memory.specs.Uses.{KernelPage}
 use Rattle.memory.specs.Sound.{Sound, KernelAddress}
-use Rattle.rules.specs.Call.{Call, formatAll, deletePartition}
+use Rattle.rules.specs.Call.{deletePartition}
 use Rattle.rules.specs.Moves.{mark}
 use Rattle.rules.specs.Conditions.{child}
 use Rattle.rules.specs.Refusals.{refusal}
 use Rattle.rules.specs.Calls.{after}
-use Rattle.rules.specs.Editions.{run}
-use Rattle.rules.specs.Permitted.{Fits}
 
 -- m is the memory before the call, c the child's address in the caller
 module _ (b : ℕ) (m : List ℕ) (c : ℕ) where
@@ -65,9 +63,6 @@ AccessibleAlready =
     (m : List ℕ) → Sound (width m) m → (k d v : ℕ) → InTree (width m) m k d → Has (width m) m d v → accessible (mapping (width m) m d v) ≡ 1
     → mark (width m) (suc mostDepth) 1 m d v ≡ m
 
--- of every memory that calls leave after a format that passes, and every deletePartition that passes on it
+-- of every sound memory, and every deletePartition that passes on it
 abbrev pub EveryDelete : Type 0
-EveryDelete =
-    (e : ℕ) (start : List ℕ) → Fits e start → (cs : List Call) →
-    let m = run start (formatAll e ∷ cs) in
-    (c : ℕ) → refusal (width m) m (deletePartition c) ≡ 0 → Deleted (width m) m c
+EveryDelete = (m : List ℕ) → Sound (width m) m → (c : ℕ) → refusal (width m) m (deletePartition c) ≡ 0 → Deleted (width m) m c

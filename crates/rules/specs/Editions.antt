@@ -1,9 +1,11 @@
 -- The calls as they are made: each reads the memory by the width of the edition that the header names. Assumes nothing.
+use mathlib.Core.Path.{_≡_}
 use mathlib.Core.List.{List, [], _∷_}
 use mathlib.Core.Bool.{cond}
 use mathlib.Core.Option.{Option, none, some}
 use Prim.Native.Nat.{ℕ}
 use Rattle.memory.specs.Edition.{width}
+use Rattle.memory.specs.Sound.{Sound}
 use Rattle.rules.specs.Row.{Answer}
 use Rattle.rules.specs.Call.{Call, choice}
 use Rattle.rules.specs.Conditions.{unfit}
@@ -32,3 +34,17 @@ nextEdition m e (some f) = cond (unfit f m) e f
 unfoldable pub lastEdition : List ℕ → ℕ → List Call → ℕ
 lastEdition m e [] = e
 lastEdition m e (c ∷ cs) = lastEdition m (nextEdition m e (choice c)) cs
+
+-- ---- calls without a format
+
+abbrev pub NoFormat : List Call → Type 0
+NoFormat [] = Unit {0}
+NoFormat (c ∷ cs) = (choice c ≡ none) × NoFormat cs
+
+-- on every sound memory they are the calls at its width. Proved in proofs/state/Keeps.
+abbrev pub OneWidth : Type 0
+OneWidth = (m : List ℕ) → Sound (width m) m → (cs : List Call) → NoFormat cs → (run m cs ≡ C.run (width m) m cs) × (width (run m cs) ≡ width m)
+
+-- every sound memory stays sound, whatever is called and whatever made it. Proved there, too.
+abbrev pub StaysSound : Type 0
+StaysSound = (m : List ℕ) → Sound (width m) m → (cs : List Call) → Sound (width (run m cs)) (run m cs)

@@ -11,6 +11,7 @@ pub mod Permitted
 pub mod SameChain
 pub mod PageTold
 pub mod Deleted
+pub mod Reads
 pub mod Bytes
 pub mod Record
 pub mod Replay

@@ -1,14 +1,15 @@
--- Demand 2: what prepare takes comes back from collect as the same chain. Proved in proofs/steps, PrepareCollect and ThreeKept. Assumes nothing.
+-- Demand 2: what prepare takes comes back from collect as the same chain, on every sound memory. Proved in proofs/state/Promises. Assumes nothing.
 use mathlib.Core.Path.{_≡_}
 use mathlib.Core.Logic.{_≢_}
 use mathlib.Core.List.{List, [], _∷_}
 use mathlib.Core.Option.{none}
 use Prim.Native.Nat.{ℕ, _+_, _*_, _<_}
+use Rattle.memory.specs.Edition.{width}
 use Rattle.memory.specs.Geometry.{pageWords, pageOf, directoryIndex}
 use Rattle.memory.specs.Words.{word}
 use Rattle.memory.specs.Partition.{list, threes}
 use Rattle.memory.specs.Tree.{InTree}
-use Rattle.memory.specs.Sound.{Stands}
+use Rattle.memory.specs.Sound.{Stands, Sound}
 use Rattle.rules.specs.Row.{ok}
 use Rattle.rules.specs.Call.{Call, prepare, collect, choice}
 use Rattle.rules.specs.Conditions.{child, link}
@@ -56,3 +57,27 @@ module _ (b : ℕ) where
   pub record SameLater (m : List ℕ) (c t p : ℕ) (cs : List Call) (c′ t′ : ℕ) : Type 0 where
     pub answered : answer b (run b (after b m (prepare c t p)) cs) (collect c′ t′) ≡ ok p
     pub afterwards : Chain (after b (run b (after b m (prepare c t p)) cs) (collect c′ t′)) p (link b m p) (link b m (link b m p))
+
+-- ---- of every sound memory, by the width of its edition. None of the calls is a format, so the next call reads by that width, too: OneWidth in
+-- Editions.antt
+
+-- "Pages prepared and then collected come back in the same chain."
+abbrev pub EverySameChain : Type 0
+EverySameChain = (m : List ℕ) → Sound (width m) m → (c t p : ℕ) → refusal (width m) m (prepare c t p) ≡ 0 → SameChain (width m) m c t p
+
+-- the list keeps a three's addresses in their order, whatever call spares the three
+abbrev pub EveryThreeKept : Type 0
+EveryThreeKept =
+    (m : List ℕ) → Sound (width m) m → (d i v₁ v₂ v₃ : ℕ) → ThreeAt (width m) m d i v₁ v₂ v₃ →
+    (x : Call) → Spares (width m) m d i x → ThreeAt (width m) (after (width m) m x) d i v₁ v₂ v₃
+
+-- the collect that passes is of the same child and the same directory index; the child's address in the caller may be another by then
+abbrev pub EverySameLater : Type 0
+EverySameLater =
+    (m : List ℕ) → Sound (width m) m →
+    let b = width m in
+    (c t p : ℕ) → refusal b m (prepare c t p) ≡ 0 →
+    (cs : List Call) → SparesAll b (after b m (prepare c t p)) (child b m c) (directoryIndex b (pageOf b t)) cs →
+    let m₁ = run b (after b m (prepare c t p)) cs in
+    (c′ t′ : ℕ) → refusal b m₁ (collect c′ t′) ≡ 0 → child b m₁ c′ ≡ child b m c → directoryIndex b (pageOf b t′) ≡ directoryIndex b (pageOf b t)
+    → SameLater b m c t p cs c′ t′

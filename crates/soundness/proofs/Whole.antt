@@ -104,7 +104,7 @@ module _ (b : ℕ) (m : List ℕ) where
     pub small : {k d : ℕ} → InTree b m k d → (v : ℕ) → Has b m d v → mapping b m d v ≢ 0 → pageOf b (mapping b m d v) < pages b m
     small {k} {d} t v h n = s .forms k d t .tables v h .tableWord n .1
 
-    part-inside : {k d : ℕ} → InTree b m k d → (0 < d) × (d < pages b m)
+    pub part-inside : {k d : ℕ} → InTree b m k d → (0 < d) × (d < pages b m)
     part-inside root = (omega arith, omega (arith, s .header .least))
     part-inside (child {k = k} {d = d} {v = v} {c = c} t a) =
         let f = flat t v (a .has) (a .present) in
@@ -129,7 +129,7 @@ module _ (b : ℕ) (m : List ℕ) where
       listed-pos (child {k = k} {d = d} {v = v} {c = c} t a) j h =
           agreed t (word b m (list b m c) (1 + 2 * j)) (word b m (list b m c) (2 + 2 * j)) (s .forms (suc k) c (child t a) .list .pairs j h .0) (s .children k d t .right v c a .listed j h)
 
-      five-inside : {k d : ℕ} → InTree b m k d → (j : ℕ) → j < 5 → (0 < getD (fivePages b m d) j 0) × (getD (fivePages b m d) j 0 < pages b m)
+      pub five-inside : {k d : ℕ} → InTree b m k d → (j : ℕ) → j < 5 → (0 < getD (fivePages b m d) j 0) × (getD (fivePages b m d) j 0 < pages b m)
       five-inside t zero h = part-inside t
       five-inside {k} {d} t (suc zero) h = (own-pos t 1 h, s .forms k d t .descriptor .pairs 1 h .1 .1)
       five-inside {k} {d} t (suc (suc zero)) h = (own-pos t 2 h, s .forms k d t .descriptor .pairs 2 h .1 .1)
@@ -137,7 +137,7 @@ module _ (b : ℕ) (m : List ℕ) where
       five-inside {k} {d} t (suc (suc (suc (suc zero)))) h = (own-pos t 4 h, s .forms k d t .descriptor .pairs 4 h .1 .1)
       five-inside t (suc (suc (suc (suc (suc j))))) h = absurd (omega arith)
 
-      used-inside : {k d : ℕ} → InTree b m k d → (w : Way) (p : ℕ) → UsedBy b m d w p → (0 < p) × (p < pages b m)
+      pub used-inside : {k d : ℕ} → InTree b m k d → (w : Way) (p : ℕ) → UsedBy b m d w p → (0 < p) × (p < pages b m)
       used-inside t (five j) p (h, e) = let i = five-inside t j h in (omega (arith, i .0, e), omega (arith, i .1, e))
       used-inside {k} {d} t (listed j) p (h, e) = (omega (arith, listed-pos t j h, e), omega (arith, s .forms k d t .list .pairs j h .1 .1, e))
       used-inside t (inHand v) p (h, n, x, y, e) = (omega (arith, flat t v h n, e), omega (arith, small t v h n, e))

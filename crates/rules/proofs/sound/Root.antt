@@ -30,11 +30,11 @@ five-kernel d (suc (suc (suc zero))) = refl
 five-kernel d (suc (suc (suc (suc j)))) = refl
 
 module _ (N T v : ℕ) where
-  flat-some : (0 < v) × (5 + 3 * T + v < N) → flat0 N T v ≡ some (5 + 3 * T + v)
+  pub flat-some : (0 < v) × (5 + 3 * T + v < N) → flat0 N T v ≡ some (5 + 3 * T + v)
   unfolding flat0
   flat-some h = pick-yes (decLt 0 v) _ none (h .0) ∙ pick-yes (decLt (5 + 3 * T + v) N) _ none (h .1)
 
-  flat-none : ¬ ((0 < v) × (5 + 3 * T + v < N)) → flat0 N T v ≡ none
+  pub flat-none : ¬ ((0 < v) × (5 + 3 * T + v < N)) → flat0 N T v ≡ none
   unfolding flat0
   flat-none n = go (decLt 0 v) (decLt (5 + 3 * T + v) N)
     where

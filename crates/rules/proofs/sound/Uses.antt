@@ -82,12 +82,12 @@ module _ {b : ℕ} (wide : 6 ≤ b) (m : List ℕ) (i : Inv b m) where
   A = i .state
 
   module _ (d : ℕ) (l : A .role d ≡ desc) where
-    five-names : (j : ℕ) → getD (fivePages b m d) j 0 ≡ fivePage A d j
+    pub five-names : (j : ℕ) → getD (fivePages b m d) j 0 ≡ fivePage A d j
     five-names j = λ t. getD (d ∷ directory-is wide m i d l t ∷ shadow1-is wide m i d l t ∷ shadow2-is wide m i d l t ∷ list-is wide m i d l t ∷ []) j 0
 
     -- ---- from the words to the state
 
-    holds : (v p : ℕ) → UsedBy b m d (inHand v) p → Holds b A d v p
+    pub holds : (v p : ℕ) → UsedBy b m d (inHand v) p → Holds b A d v p
     holds v p u =
         let y = mapping-there wide m i d v l (u .0 .virtual) (u .1) in
         let e : y .0 ≡ p = sym (y .2 .page) ∙ u .4 in
@@ -102,7 +102,7 @@ module _ {b : ℕ} (wide : 6 ≤ b) (m : List ℕ) (i : Inv b m) where
           at = ap (addr b) (sym (t .vp) ∙ y .2 .at) ∙ virtual-back wide v (u .0 .virtual);
         })
 
-    listed-page : (j : ℕ) → j < 3 * length (A .threes d) → Geometry.pageOf b (Mem.word b m (Partition.list b m d) (2 + 2 * j)) ≡ pageAt (A .threes d) j
+    pub listed-page : (j : ℕ) → j < 3 * length (A .threes d) → Geometry.pageOf b (Mem.word b m (Partition.list b m d) (2 + 2 * j)) ≡ pageAt (A .threes d) j
     unfolding pageOf
     listed-page j n = ap (pageOf b) (listed-physical wide m i d l j n) ∙ pageOf-addr wide (pageAt (A .threes d) j)
 

@@ -78,7 +78,7 @@ module _ (b : ℕ) (m : List ℕ) where
 -- ---- rights
 
 -- a number that is left whole by another has each of its bits in it
-and-sub : (r s : ℕ) → bitAnd r s ≡ r → Sub r s
+pub and-sub : (r s : ℕ) → bitAnd r s ≡ r → Sub r s
 and-sub r s e =
     let x : bitAnd (r / 2) (s / 2) ≡ r / 2 = omega (arith, and-step r s) in
     let y : bitAnd (r / 2 / 2) (s / 2 / 2) ≡ r / 2 / 2 = omega (arith, and-step (r / 2) (s / 2)) in

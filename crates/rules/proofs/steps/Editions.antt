@@ -9,16 +9,13 @@ use Rattle.memory.specs.Edition.{edition, width}
 use Rattle.memory.specs.Geometry.{widths, widthOf}
 use Rattle.memory.specs.Format.{format}
 use Rattle.memory.specs.Sound.{Sound}
-use Rattle.memory.proofs.Editions.{wide-of, edition-known, edition-read}
-use Rattle.rules.specs.Call.{Call, formatAll, prepare, choice}
+use Rattle.memory.proofs.Editions.{wide-of, edition-read}
+use Rattle.rules.specs.Call.{Call, formatAll, choice}
 use Rattle.rules.specs.Conditions.{pagesIn, unfit}
-use Rattle.rules.specs.Refusals.{refusals, refusal}
 use Rattle.rules.specs.Effects.{effect}
 use Rattle.rules.specs.Calls as C
-use Rattle.rules.specs.Editions.{after, run, nextEdition, lastEdition}
+use Rattle.rules.specs.Editions.{after, run, nextEdition, lastEdition, NoFormat}
 use Rattle.rules.specs.Permitted.{Fits}
-use Rattle.rules.specs.SameChain.{SameChain}
-use Rattle.rules.specs.Deleted.{EveryDelete}
 use Rattle.rules.proofs.Rows.{after-ok, after-no}
 use Rattle.rules.proofs.Choices.{is-format}
 use Rattle.rules.proofs.Size.{fits, fit, passes, refused}
@@ -28,8 +25,6 @@ use Rattle.rules.proofs.sound.Forms.{sound-header}
 use Rattle.rules.proofs.sound.All.{inv-sound}
 use Rattle.rules.proofs.steps.Unchanged.{inv-formatAll}
 use Rattle.rules.proofs.steps.Step.{inv-step}
-use Rattle.rules.proofs.steps.PrepareCollect.{same-chain}
-use Rattle.rules.proofs.steps.Deleted.{deleted-pages}
 
 -- the memory has the invariant of edition e
 pub record Held (e : ℕ) (m : List ℕ) : Type 0 where
@@ -100,40 +95,19 @@ held-run e m h (c ∷ cs) =
     subst (λ (x : ℕ). Held x (run (after m c) cs)) (last-same m (after m c) (length-after (width m) m c) (nextEdition m e (choice c)) cs)
     (held-run (nextEdition m e (choice c)) (after m c) (held-step h c) cs)
 
--- by the width that the memory itself names
-pub held-own : (e : ℕ) (m : List ℕ) → Held e m → Inv (width m) m
-held-own e m h = subst (λ (x : ℕ). Inv (widthOf x) m) (sym (edition-is e m h)) (h .inv)
+-- ---- calls without a format stay at one width
 
--- ---- calls between two formats stay at one width
+pub held-on : {e : ℕ} {m : List ℕ} → Held e m → (c : Call) → choice c ≡ none → Held e (after m c)
+unfolding nextEdition
+held-on {e} {m} h c n = subst (λ (o : Option ℕ). Held (nextEdition m e o) (after m c)) n (held-step h c)
 
-abbrev pub NoFormat : List Call → Type 0
-NoFormat [] = Unit {0}
-NoFormat (c ∷ cs) = (choice c ≡ none) × NoFormat cs
+pub held-all : (e : ℕ) (m : List ℕ) → Held e m → (cs : List Call) → NoFormat cs → Held e (run m cs)
+unfolding run
+held-all e m h [] n = h
+held-all e m h (c ∷ cs) (n, ns) = held-all e (after m c) (held-on h c n) cs ns
 
 pub run-is : (e : ℕ) (m : List ℕ) → Held e m → (cs : List Call) → NoFormat cs → run m cs ≡ C.run (widthOf e) m cs
-unfolding run C.run nextEdition
+unfolding run C.run
 run-is e m h [] n = refl
 run-is e m h (c ∷ cs) (n, ns) =
-    run-is e (after m c) (subst (λ (o : Option ℕ). Held (nextEdition m e o) (after m c)) n (held-step h c)) cs ns
-    ∙ ap (λ (x : List ℕ). C.run (widthOf e) x cs) (left h c)
-
--- ---- from format, and any calls before: what prepare takes comes back from collect as the same chain
-
-module _ (e : ℕ) (m : List ℕ) (f : Fits e m) (cs : List Call) where
-  abbrev formatted : List ℕ
-  formatted = run (format (widthOf e) (pagesIn (widthOf e) m)) cs
-
-  invariant : Inv (width formatted) formatted
-  invariant = held-own _ formatted (held-run e _ (held-format m e f) cs)
-
-  pub same-chain-run : (c t p : ℕ) → refusal (width formatted) formatted (prepare c t p) ≡ 0 → SameChain (width formatted) formatted c t p
-  same-chain-run c t p h =
-      same-chain (wide-of (edition formatted) (edition-known formatted)) formatted invariant c t p h
-
--- .. and what deletePartition leaves of the pages that come back
-pub every-delete : EveryDelete
-unfolding run
-every-delete e start f cs c =
-    let m = run start (formatAll e ∷ cs) in
-    let i : Inv (width m) m = rw (format-leaves start e f) (invariant e start f cs) in
-    deleted-pages (wide-of (edition m) (edition-known m)) m i c
+    run-is e (after m c) (held-on h c n) cs ns ∙ ap (λ (x : List ℕ). C.run (widthOf e) x cs) (left h c)

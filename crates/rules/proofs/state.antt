@@ -1,0 +1,11 @@
+pub mod Tree
+pub mod State
+pub mod Used
+pub mod Hops
+pub mod Threes
+pub mod Found
+pub mod Formed
+pub mod Rooted
+pub mod Represented
+pub mod Keeps
+pub mod Promises

@@ -1,0 +1,34 @@
+-- What is promised of prepare and collect and of deletePartition, of every sound memory. Assumes nothing.
+use mathlib.Core.List.{List}
+use Prim.Native.Nat.{ℕ, _≤_}
+use Rattle.memory.specs.Edition.{edition, width}
+use Rattle.memory.specs.Sound.{Sound}
+use Rattle.memory.proofs.Editions.{wide-of, edition-known}
+use Rattle.rules.specs.SameChain.{EverySameChain, EveryThreeKept, EverySameLater}
+use Rattle.rules.specs.Deleted.{EveryDelete}
+use Rattle.rules.proofs.model.Inv.{Inv}
+use Rattle.rules.proofs.sound.Tree.{in-tree-live}
+use Rattle.rules.proofs.steps.PrepareCollect.{same-chain}
+use Rattle.rules.proofs.steps.ThreeKept.{three-step, same-later}
+use Rattle.rules.proofs.steps.Deleted.{deleted-pages}
+use Rattle.rules.proofs.state.Represented.{sound-inv}
+
+module _ (m : List ℕ) where
+  wide : 6 ≤ width m
+  wide = wide-of (edition m) (edition-known m)
+
+  inv : Sound (width m) m → Inv (width m) m
+  inv s = sound-inv wide m s
+
+pub every-same-chain : EverySameChain
+every-same-chain m s = same-chain (wide m) m (inv m s)
+
+pub every-three-kept : EveryThreeKept
+every-three-kept m s d i v₁ v₂ v₃ h x k =
+    three-step (wide m) m (inv m s) d i (in-tree-live (wide m) m (inv m s) (k .before .0) d (k .before .1)) h x k
+
+pub every-same-later : EverySameLater
+every-same-later m s = same-later (wide m) m (inv m s)
+
+pub every-delete : EveryDelete
+every-delete m s c h = deleted-pages (wide m) m (inv m s) c h
