@@ -2,3 +2,4 @@ pub mod Reached
 pub mod Computing
 pub mod Cases
 pub mod Morning
+pub mod Pair
