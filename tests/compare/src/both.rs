@@ -40,7 +40,8 @@ pub fn verdict(words: &[u32], tally: &mut Tally) -> Result<(), String> {
     (said == expected).then_some(()).ok_or_else(difference)
 }
 
-fn same(proved: &[u32], second: &[u32], said: Answer, answer: Answer) -> Result<(), String> {
+/// Whether answers and all words are the same; else the first word that is not.
+pub fn same(proved: &[u32], second: &[u32], said: Answer, answer: Answer) -> Result<(), String> {
     if said == answer && proved == second {
         return Ok(());
     }
@@ -52,7 +53,7 @@ fn same(proved: &[u32], second: &[u32], said: Answer, answer: Answer) -> Result<
     Err(format!("  answer: proved {}, second {}\n  {word}", shown(said), shown(answer)))
 }
 
-fn shown(answer: Answer) -> String {
+pub fn shown(answer: Answer) -> String {
     answer.map_or_else(|refusal| format!("no {refusal}"), |word| format!("ok {word}"))
 }
 

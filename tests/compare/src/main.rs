@@ -2,10 +2,15 @@
 
 mod both;
 mod memories;
+mod pair_ways;
+mod paired;
+mod pairs;
 mod proved;
 mod records;
 mod round;
 mod scripts;
+#[cfg(test)]
+mod stand_ins;
 mod tally;
 mod ways;
 

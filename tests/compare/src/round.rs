@@ -1,8 +1,8 @@
-//! A round: one guided sequence from format, with changed memories and start-up records in between, and replay scripts.
+//! A round: one guided sequence from format, with changed memories and start-up records in between, replay scripts, and pairs of memories.
 
 use crate::both::{follow, perform};
 use crate::tally::Tally;
-use crate::{memories, records, scripts};
+use crate::{memories, pairs, proved, records, scripts};
 use second::calls::Answer;
 use second::geometry::*;
 use second::make::guide;
@@ -33,6 +33,7 @@ pub fn round(seed: u32, flip: Option<usize>, tally: &mut Tally) -> Result<(), St
     if edition == LARGE && turn.is_multiple_of(5) {
         done = done.and_then(|()| many_pages(MANY[turn / 5 % MANY.len()], &mut random, tally));
     }
+    done = done.and_then(|()| pairs::compare(edition, turn, [proved::call, pairs::second_program], &mut random, tally));
     done.map_err(|text| format!("seed {seed}, edition {}, {pages} pages, {text}", edition.number))
 }
 

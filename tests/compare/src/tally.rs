@@ -1,5 +1,6 @@
 //! What was compared so far.
 
+use crate::paired::Paired;
 use crate::round::{FEW, MANY};
 use crate::scripts;
 use crate::ways::Ways;
@@ -25,6 +26,8 @@ pub struct Part {
     pub from_the_other: u64,
     /// Verdicts of sound memories, and of others.
     pub verdicts: [u64; 2],
+    /// Pairs of memories that show a partition the same.
+    pub paired: Paired,
 }
 
 #[derive(Default)]
@@ -59,6 +62,7 @@ impl Part {
         self.several += other.several;
         add(&mut self.verdicts, &other.verdicts);
         self.from_the_other += other.from_the_other;
+        self.paired.add(&other.paired);
     }
 
     /// What has to occur on memories of an edition, and did not.
@@ -69,6 +73,7 @@ impl Part {
         let verdicts = [0, 1].into_iter().filter(|&verdict| self.verdicts[verdict] == 0);
         missing.extend(verdicts.map(|verdict| format!("verdict {verdict}")));
         missing.extend((self.from_the_other == 0).then(|| "a memory of the other edition".to_string()));
+        missing.extend(self.paired.missing());
         missing
     }
 
@@ -161,6 +166,13 @@ impl fmt::Display for Tally {
         if !scripts::built() {
             writeln!(f, "no scripts: target/bin/replay is not built (rt check replay)")?;
         }
-        writeln!(f, "{} scripts replayed, {} of them bad", self.good_scripts + self.bad_scripts, self.bad_scripts)
+        writeln!(f, "{} scripts replayed, {} of them bad", self.good_scripts + self.bad_scripts, self.bad_scripts)?;
+        self.parts.iter().zip(EDITIONS).try_for_each(|(part, edition)| {
+            writeln!(
+                f,
+                "\nPairs of memories that show a partition B the same, edition {}: {}",
+                edition.number, part.paired
+            )
+        })
     }
 }

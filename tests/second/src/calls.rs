@@ -127,7 +127,7 @@ pub fn format(mem: &mut [u32], choice: u32) -> Answer {
     Ok(0)
 }
 
-/// Fills words that are all 0: the header first, as it says how the others are read. They may end before the flat pages.
+/// Fills words that are all 0: the header first, as it says how the others are read. They may end after the root's five pages.
 pub fn fill_formatted(mem: &mut [u32], sizes: Sizes) {
     let edition = sizes.edition;
     let root = ROOT_PAGE.address(edition);

@@ -50,7 +50,7 @@ impl Edition {
     }
 
     /// Words of a page, and entries of a directory or table.
-    pub fn page_words(self) -> usize {
+    pub const fn page_words(self) -> usize {
         1 << self.index_bits
     }
 

@@ -11,8 +11,39 @@ struct Maker<'a, Show: FnMut(&[u32], Answer, &[u32])> {
     random: &'a mut Random,
     /// How many calls are still to be made.
     left: usize,
+    skip: &'a Skip<'a>,
     show: Show,
 }
+
+/// Whether a call is left out, given the memory before it.
+pub type Skip<'a> = dyn Fn(&[u32], &[u32]) -> bool + 'a;
+
+/// How a level is dug: at times with half of the pages and many with fewer rights; with all pages; or with all but so many, of which one in so many has
+/// fewer rights.
+#[derive(Clone, Copy, PartialEq)]
+enum Dig {
+    Loose,
+    Tight,
+    Apart { kept: usize, fewer: usize },
+}
+
+/// What is made below some partition.
+#[derive(Clone, Copy)]
+pub enum Work {
+    /// So many calls.
+    Calls(usize),
+    /// One child with as many threes as it can have.
+    Fill,
+    /// A child with a three and pages, and in.
+    Dig,
+    /// As deep as there are children, one level more, and a create there.
+    Descend,
+    /// Pages lent with any rights to a child.
+    Lend,
+}
+
+/// The most calls of a work that ends by itself.
+const MOST_CALLS: usize = 64;
 
 /// So many calls for a memory of so many pages of the edition; each line is a call number and its arguments.
 pub fn make(edition: Edition, seed: u32, count: usize, pages: usize) -> Vec<Vec<u32>> {
@@ -25,11 +56,33 @@ pub fn make(edition: Edition, seed: u32, count: usize, pages: usize) -> Vec<Vec<
 
 /// Makes and performs so many calls, and shows each with its answer and the memory after it.
 pub fn guide(mem: &mut [u32], random: &mut Random, count: usize, show: impl FnMut(&[u32], Answer, &[u32])) {
-    let mut maker = Maker { mem, random, left: count, show };
+    guide_but(mem, random, Work::Calls(count), &|_, _| false, show);
+}
+
+/// The same for any work, with some calls left out: they count, but are neither performed nor shown.
+pub fn guide_but(
+    mem: &mut [u32],
+    random: &mut Random,
+    work: Work,
+    skip: &Skip,
+    show: impl FnMut(&[u32], Answer, &[u32]),
+) {
+    let mut maker = Maker { mem, random, left: MOST_CALLS, skip, show };
+    match work {
+        Work::Calls(count) => maker.left = count,
+        Work::Fill => return maker.fill(),
+        Work::Dig => return maker.dig_apart(),
+        Work::Descend => {
+            maker.descend(MOST_DEPTH);
+            maker.dig_apart();
+            return maker.create();
+        }
+        Work::Lend => return maker.lend_any(),
+    }
     while maker.left > 0 {
         match maker.random.below(20) {
             0..=7 => maker.mix(60),
-            8 => maker.dig(3, true),
+            8 => maker.dig(3, Dig::Loose),
             9 => maker.dig_and_end(),
             10 | 11 => maker.dig_deep(),
             12 | 18 => maker.fill(),
@@ -37,8 +90,19 @@ pub fn guide(mem: &mut [u32], random: &mut Random, count: usize, show: impl FnMu
             15 => maker.climb(3),
             16 | 17 => maker.descend(3),
             _ if maker.random.once_in(8) => drop(maker.say(&[0, maker.edition().number])),
-            _ => maker.clear_root(),
+            _ => maker.clear_top(),
         }
+    }
+}
+
+/// Goes down so many levels from the current partition, as far as the pages last. At each some stay in hand, at the first and the last enough for another
+/// child; the last has fewer rights on many pages.
+pub fn grow(mem: &mut [u32], random: &mut Random, levels: usize) {
+    let mut maker = Maker { mem, random, left: usize::MAX, skip: &|_, _| false, show: |_, _, _| () };
+    for level in 1..=levels {
+        let (least, fewer) = (if level == 1 || level == levels { 11 } else { 0 }, if level == levels { 4 } else { 16 });
+        let kept = least + maker.random.below(10);
+        maker.dig(1, Dig::Apart { kept, fewer });
     }
 }
 
@@ -50,6 +114,9 @@ impl<Show: FnMut(&[u32], Answer, &[u32])> Maker<'_, Show> {
     /// The call's answer where it passes.
     fn say(&mut self, line: &[u32]) -> Option<u32> {
         self.left = self.left.checked_sub(1)?;
+        if (self.skip)(self.mem, line) {
+            return None;
+        }
         let answer = call(self.mem, line[0], &line[1..])?;
         (self.show)(line, answer, self.mem);
         answer.ok()
@@ -269,41 +336,81 @@ impl<Show: FnMut(&[u32], Answer, &[u32])> Maker<'_, Show> {
     }
 
     /// Goes down level by level: a child, a three for it, pages lent to it, and in.
-    fn dig(&mut self, levels: usize, loose: bool) {
+    fn dig(&mut self, levels: usize, way: Dig) {
         for _ in 0..levels {
             let [a, b, c, d, e, _, _, _, _, ..] = self.hand(READ + WRITE)[..] else { break };
-            self.say(&[1, a, b, c, d, e]);
+            let refused = self.say(&[1, a, b, c, d, e]).is_none();
+            if refused && matches!(way, Dig::Apart { .. }) {
+                break;
+            }
             let Some(index) = self.furnish(a) else { break };
-            let words = self.edition().page_words();
-            let mut slots: Vec<u32> = (0..words).map(|j| self.address(index, j)).collect();
-            slots.retain(|&slot| slot != 0);
-            let last = self.address(index, words - 1);
-            self.random.shuffle(&mut slots);
-            if self.random.once_in(2) {
-                slots.retain(|&slot| slot != last);
-                slots.insert(0, last);
-            }
-            let mut pages = self.hand(0);
-            if loose && self.random.once_in(2) {
-                pages.truncate(2 + pages.len() / 2);
-            }
-            for (page, slot) in pages.into_iter().zip(slots) {
-                let fewer = loose && self.random.once_in(3) || self.random.once_in(40);
-                let some = if fewer { self.random.below(6) as u32 } else { READ + WRITE };
-                // Words that the child's end wipes, or leaves to a caller that may not write them.
-                if loose && self.random.once_in(4) && self.rights(page) & WRITE != 0 {
-                    let (place, word) = (4 * self.random.below(words) as u32, self.random.draw() as u32);
-                    self.say(&[12, page + place, word]);
-                }
-                self.say(&[3, page, a, slot, self.rights(page) & some]);
+            self.lend(a, index, way);
+            while self.left > 0 && matches!(way, Dig::Apart { kept, .. } if self.hand(0).len() > kept + 3) {
+                let Some(index) = self.furnish(a) else { break };
+                self.lend(a, index, way);
             }
             self.say(&[9, a]);
         }
     }
 
+    /// One level, with some pages that stay in hand and fewer rights on many of the others.
+    fn dig_apart(&mut self) {
+        let kept = self.random.below(12);
+        self.dig(1, Dig::Apart { kept, fewer: 4 });
+    }
+
+    /// Lends pages to the child, at places of the three at this index.
+    fn lend(&mut self, child: u32, index: usize, way: Dig) {
+        let words = self.edition().page_words();
+        let mut slots: Vec<u32> = (0..words).map(|j| self.address(index, j)).collect();
+        slots.retain(|&slot| slot != 0);
+        let last = self.address(index, words - 1);
+        self.random.shuffle(&mut slots);
+        if self.random.once_in(2) {
+            slots.retain(|&slot| slot != last);
+            slots.insert(0, last);
+        }
+        let mut pages = self.hand(0);
+        match way {
+            Dig::Loose if self.random.once_in(2) => pages.truncate(2 + pages.len() / 2),
+            Dig::Apart { kept, .. } => pages.truncate(pages.len() - kept.min(pages.len() / 2)),
+            _ => (),
+        }
+        for (page, slot) in pages.into_iter().zip(slots) {
+            let fewer = match way {
+                Dig::Loose => self.random.once_in(3) || self.random.once_in(40),
+                Dig::Tight => self.random.once_in(40),
+                Dig::Apart { fewer, .. } => self.random.once_in(fewer),
+            };
+            let some = if fewer { self.random.below(6) as u32 } else { READ + WRITE };
+            // Words that the child's end wipes, or leaves to a caller that may not write them.
+            if way != Dig::Tight && self.random.once_in(4) && self.rights(page) & WRITE != 0 {
+                let (place, word) = (4 * self.random.below(words) as u32, self.random.draw() as u32);
+                self.say(&[12, page + place, word]);
+            }
+            self.say(&[3, page, child, slot, self.rights(page) & some]);
+        }
+    }
+
+    /// Lends some pages with any rights, held or not, to a child that has tables.
+    fn lend_any(&mut self) {
+        if self.children().is_empty() {
+            self.create();
+        }
+        let Some(child) = self.random.pick(&self.children()) else { return };
+        if self.covered(child, false).is_empty() {
+            self.furnish(child);
+        }
+        for page in self.hand(0).into_iter().take(8) {
+            let taken = self.random.once_in(4);
+            let (target, rights) = (self.target(child, taken), self.random.below(WRITE_EXECUTE as usize) as u32);
+            self.say(&[3, page, child, target, rights]);
+        }
+    }
+
     /// Some levels down, up again, and a child deleted there with all that it was lent: below the root, too.
     fn dig_and_end(&mut self) {
-        self.dig(3, true);
+        self.dig(3, Dig::Loose);
         let levels = 1 + self.random.below(3);
         self.climb(levels);
         if let Some(child) = self.random.pick(&self.children()) {
@@ -311,17 +418,17 @@ impl<Show: FnMut(&[u32], Answer, &[u32])> Maker<'_, Show> {
         }
     }
 
-    /// From a cleared root as deep as the pages allow, and a create there.
+    /// From a cleared partition as deep as the pages allow, and a create there.
     fn dig_deep(&mut self) {
-        self.clear_root();
-        self.dig(MOST_DEPTH, false);
+        self.clear_top();
+        self.dig(MOST_DEPTH, Dig::Tight);
         self.create();
         self.mix(20);
     }
 
-    /// From a cleared root one child with threes until its list is full, and one more.
+    /// From a cleared partition one child with threes until its list is full, and one more.
     fn fill(&mut self) {
-        self.clear_root();
+        self.clear_top();
         let [a, b, c, d, e, ..] = self.hand(READ + WRITE)[..] else { return };
         self.say(&[1, a, b, c, d, e]);
         for _ in 0..=MOST_THREES {
@@ -358,7 +465,8 @@ impl<Show: FnMut(&[u32], Answer, &[u32])> Maker<'_, Show> {
         }
     }
 
-    fn clear_root(&mut self) {
+    /// Deletes the children of the root, or of the partition above which calls are left out.
+    fn clear_top(&mut self) {
         self.climb(MOST_DEPTH);
         for child in self.children() {
             self.say(&[2, child]);
@@ -367,7 +475,8 @@ impl<Show: FnMut(&[u32], Answer, &[u32])> Maker<'_, Show> {
 
     fn climb(&mut self, levels: usize) {
         for _ in 0..levels {
-            if Partition::current(self.mem).descriptor != ROOT_PAGE || self.random.once_in(40) {
+            let at_root = Partition::current(self.mem).descriptor == ROOT_PAGE;
+            if !(self.skip)(self.mem, &[10]) && (!at_root || self.random.once_in(40)) {
                 self.say(&[10]);
             }
         }

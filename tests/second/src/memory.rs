@@ -136,10 +136,15 @@ impl Partition {
     }
 }
 
+/// A page of any edition that is all 0.
+static ZEROS: [u32; LARGE.page_words()] = [0; LARGE.page_words()];
+
 /// The words of three pages at each index; a page that is absent or outside the memory counts as 0.
 fn columns(mem: &[u32], pages: [Option<PPage>; 3]) -> impl Iterator<Item = [u32; 3]> + '_ {
-    let words = pages.map(|page| page.map_or(&[][..], |page| words_of(mem, page)));
-    (0..Edition::of(mem).page_words()).map(move |i| words.map(|words| words.get(i).copied().unwrap_or(0)))
+    let zeros = &ZEROS[..Edition::of(mem).page_words()];
+    let words = pages.map(|page| page.map(|page| words_of(mem, page)).filter(|words| !words.is_empty()));
+    let [a, b, c] = words.map(|words| words.unwrap_or(zeros));
+    a.iter().zip(b).zip(c).map(|((&a, &b), &c)| [a, b, c])
 }
 
 fn pair(mem: &[u32], page: PPage, index: usize) -> (VPage, PPage) {

@@ -125,14 +125,14 @@ fn tables_form(j: &Judged, p: &Partition) -> bool {
 
 // 2. The root's five pages are as format leaves them, and it maps exactly the flat pages.
 fn root_as_formatted(j: &Judged) -> bool {
-    let mut fresh = vec![0; start(j.mem, j.sizes.first_flat())];
+    let mut fresh = vec![0; start(j.mem, PPage(FIRST_THREE))];
     fill_formatted(&mut fresh, j.sizes);
     let root = Partition::at(j.mem, ROOT_PAGE);
     let five = start(j.mem, ROOT_PAGE)..start(j.mem, PPage(FIRST_THREE));
-    let flat = |mem: &[u32]| -> Vec<_> {
-        root.mappings(mem).map(|(v, m)| (v, m.page, m.rights, root.shadow2(mem, v))).collect()
-    };
-    j.mem[five.clone()] == fresh[five] && flat(j.mem) == flat(&fresh)
+    let first = j.sizes.first_flat().0;
+    let flat = (1..=j.sizes.free).map(|v| (VPage(v), PPage(first + v - 1), ALL_RIGHTS, 0));
+    let mapped = root.mappings(j.mem).map(|(v, m)| (v, m.page, m.rights, root.shadow2(j.mem, v)));
+    j.mem[five.clone()] == fresh[five] && mapped.eq(flat)
 }
 
 // 3. Listed threes and directory indices that have tables match one to one.
