@@ -10,7 +10,7 @@ use Rattle.rules.specs.Row.{pass}
 use Rattle.rules.specs.Refusals.{refusal}
 use Rattle.rules.specs.Effects.{effect}
 use Rattle.rules.specs.Calls.{after}
-use Rattle.rules.proofs.Reading.{refused-same}
+use Rattle.rules.proofs.steps.Reading.{refused-same}
 use Rattle.neighbours.proofs.Twin.{Twin}
 use Rattle.neighbours.proofs.Near.{Near, near-start}
 use Rattle.neighbours.proofs.Lookups.{same-read}

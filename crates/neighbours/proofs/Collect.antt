@@ -16,7 +16,7 @@ use Rattle.rules.specs.Conditions
 use Rattle.rules.specs.Refusals.{refusals, refusal}
 use Rattle.rules.specs.Effects.{threePlace, dropThree, collectThree, effect}
 use Rattle.rules.proofs.Rows.{passed}
-use Rattle.rules.proofs.Reading.{place-of-same}
+use Rattle.rules.proofs.steps.Reading.{place-of-same}
 use Rattle.rules.proofs.model.Words.{W, word, put, twelve-lt, sixty-one}
 use Rattle.rules.proofs.model.Abs.{Kind, pt, s1, s2}
 use Rattle.rules.proofs.model.Names.{lent-is}

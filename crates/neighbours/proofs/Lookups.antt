@@ -33,7 +33,7 @@ use Rattle.rules.proofs.sound.Words.{virtual-fits, virtual-addr}
 use Rattle.rules.proofs.sound.All.{inv-whole}
 use Rattle.rules.proofs.steps.Checks.{Each, false-or}
 use Rattle.rules.proofs.steps.CollectEffect.{page-size, page-word}
-use Rattle.rules.proofs.Reading.{below-end}
+use Rattle.rules.proofs.steps.Reading.{below-end}
 use Rattle.rules.proofs.state.Tree.{room}
 use Rattle.rules.proofs.state.Tree as Tree
 use Rattle.rules.proofs.state.Represented.{sound-inv}

@@ -15,7 +15,7 @@ use Rattle.rules.specs.Conditions
 use Rattle.rules.specs.Refusals.{refusals, refusal}
 use Rattle.rules.specs.Effects.{prepareThree, effect}
 use Rattle.rules.proofs.Rows.{passed}
-use Rattle.rules.proofs.Reading.{link-same}
+use Rattle.rules.proofs.steps.Reading.{link-same}
 use Rattle.rules.proofs.model.Words.{W, put, putL, twelve-lt, sixty-one}
 use Rattle.rules.proofs.model.Abs.{Kind, pt, s1, s2}
 use Rattle.rules.proofs.model.Names.{lent-is}

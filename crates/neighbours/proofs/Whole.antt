@@ -16,7 +16,7 @@ use Rattle.rules.specs.Call.{Call, choice}
 use Rattle.rules.specs.Calls as C
 use Rattle.rules.specs.Editions.{answer, after}
 use Rattle.rules.proofs.model.Words.{W, word}
-use Rattle.rules.proofs.Reading.{reads}
+use Rattle.rules.proofs.steps.Reading.{reads}
 use Rattle.rules.proofs.steps.Editions.{Held, edition-is, left}
 use Rattle.rules.proofs.state.Represented.{sound-inv}
 use Rattle.rules.proofs.state.Keeps.{keeps-sound}

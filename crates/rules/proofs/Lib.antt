@@ -9,5 +9,4 @@ pub mod Accessible
 pub mod model
 pub mod sound
 pub mod steps
-pub mod Reading
 pub mod state

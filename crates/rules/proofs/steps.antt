@@ -43,3 +43,4 @@ pub mod ThreeCarry
 pub mod ThreeCreate
 pub mod ThreeKept
 pub mod Editions
+pub mod Reading

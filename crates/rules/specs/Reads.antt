@@ -1,5 +1,5 @@
 -- What a call reads: its refusals and its answer come from the caller's words, its children's, those of the pages that it maps and how deep it is, and
--- from nothing else in memory. Proved in proofs/Reading. Assumes nothing.
+-- from nothing else in memory. Proved in proofs/steps/Reading. Assumes nothing.
 use mathlib.Core.Path.{_≡_}
 use mathlib.Core.Logic.{_≢_}
 use mathlib.Core.List.{List}

@@ -2,15 +2,15 @@
 use mathlib.Core.Path.{_≡_, refl, sym, ap, ap₂, _∙_}
 use mathlib.Core.List.{List, [], _∷_, _++_}
 use mathlib.Core.Option.{none}
-use mathlib.Core.Bool.{Bool, true, false, not, cond, _&&_, _||_}
+use mathlib.Core.Bool.{Bool, true, false, not, cond, _||_}
 use Prim.Native.Nat.{ℕ, zero, suc, _+_, _-_, _*_, _/_, _≤_, _<_}
 use native.Mathlib.Omega.{arith}
 use borrow.Author.Tests.{leb-false, eqb-true, eqb-false, not-false, not-true}
 use lib.Dec.{leb, eqb}
 use Rattle.walk.specs.Finite.{any}
-use Rattle.memory.specs.Geometry.{addressEnd, place, mostThrees, mostDepth}
+use Rattle.memory.specs.Geometry.{addressEnd, place, mostDepth}
 use Rattle.memory.specs.Words.{word}
-use Rattle.memory.specs.Entry.{present, accessible, holds, readRight, writeRight}
+use Rattle.memory.specs.Entry.{present, accessible, readRight, writeRight}
 use Rattle.memory.specs.Partition.{current, list, threes, tableFor, mapping, lent, inHand}
 use Rattle.memory.proofs.Geometry.{place-lt}
 use Rattle.rules.specs.Refusal.{Refusal, number, DAMAGED, ADDRESS, TWICE, CHILD, RIGHTS, HAND, TABLE, TAKEN, LIST, CHAIN, FULL-TABLE, DEPTH, ROOT}
@@ -78,22 +78,22 @@ module _ (b : ℕ) (m n : List ℕ) (s : SameRead b m n) where
     w-same = s .caller .mapping v l
 
     noChild-same : noChild b m v ≡ noChild b n v
-    noChild-same = ap (λ (w : ℕ). not (eqb w 1)) (s .caller .lent v l)
+    noChild-same = rw (s .caller .lent v l) refl
 
     lacks-same : (r : ℕ) → lacks b r m v ≡ lacks b r n v
-    lacks-same r = ap (λ (w : ℕ). not (holds r w)) w-same
+    lacks-same r = rw w-same refl
 
     notInHand-same : notInHand b m v ≡ notInHand b n v
-    notInHand-same = ap₂ (λ (w x : ℕ). not (present w && eqb (accessible w) 1 && eqb x 0)) w-same (s .caller .lent v l)
+    notInHand-same = rw (w-same, s .caller .lent v l) refl
 
     unmapped-same : unmapped b m d v ≡ unmapped b n e v
-    unmapped-same = ap (λ (w : ℕ). eqb w 0) w-same
+    unmapped-same = rw w-same refl
 
     inaccessible-same : inaccessible b m v ≡ inaccessible b n v
-    inaccessible-same = ap (λ (w : ℕ). eqb (accessible w) 0) w-same
+    inaccessible-same = rw w-same refl
 
     servesChild-same : servesChild b m v ≡ servesChild b n v
-    servesChild-same = ap₂ (λ (w x : ℕ). eqb (accessible w) 0 && leb x 1) w-same (s .caller .lent v l)
+    servesChild-same = rw (w-same, s .caller .lent v l) refl
 
     -- the link of a page in hand
     pub link-same : notInHand b m v ≡ false → link b m v ≡ link b n v
@@ -108,35 +108,35 @@ module _ (b : ℕ) (m n : List ℕ) (s : SameRead b m n) where
     abbrev k : ℕ
     k = child b m c
 
-    kid : SameChild b m n k (child b n c)
-    kid = s .children c g one
+    same-child : SameChild b m n k (child b n c)
+    same-child = s .children c g one
 
     noThree-same : noThree b m k v ≡ noThree b n (child b n c) v
-    noThree-same = ap (λ (w : ℕ). eqb w 0) (kid .tables .table v l)
+    noThree-same = rw (same-child .tables .table v l) refl
 
     child-unmapped : unmapped b m k v ≡ unmapped b n (child b n c) v
-    child-unmapped = ap (λ (w : ℕ). eqb w 0) (kid .tables .mapping v l)
+    child-unmapped = rw (same-child .tables .mapping v l) refl
 
     child-hand : inHand b m k v ≡ inHand b n (child b n c) v
-    child-hand = ap₂ (λ (w x : ℕ). present w && eqb (accessible w) 1 && eqb x 0) (kid .tables .mapping v l) (kid .tables .lent v l)
+    child-hand = rw (same-child .tables .mapping v l, same-child .tables .lent v l) refl
 
     listFull-same : listFull b m k v ≡ listFull b n (child b n c) v
-    listFull-same = ap₂ (λ (w x : ℕ). eqb w 0 && leb mostThrees x) (kid .tables .table v l) (kid .threes)
+    listFull-same = rw (same-child .tables .table v l, same-child .threes) refl
 
     anyMapping-same : noThree b m k v ≡ false → anyMapping b m k v ≡ anyMapping b n (child b n c) v
-    anyMapping-same z = ap (any (λ w. not (eqb w 0))) (kid .page v l (eqb-false (tableFor b m k v) 0 z))
+    anyMapping-same z = ap (any (λ w. not (eqb w 0))) (same-child .page v l (eqb-false (tableFor b m k v) 0 z))
 
     -- the place of the three in the list
     pub place-of-same : threePlace b m k v ≡ threePlace b n (child b n c) v
     place-of-same =
-        place-same b m n (threes b m k) 0 (list b m k) (list b n (child b n c)) (tableFor b m k v - 1) (λ y f h. kid .list (2 + 6 * y) (omega arith))
-        ∙ ap₂ (λ (x y : ℕ). placeOf b x 0 n (list b n (child b n c)) (y - 1)) (kid .threes) (kid .tables .table v l)
+        place-same b m n (threes b m k) 0 (list b m k) (list b n (child b n c)) (tableFor b m k v - 1) (λ y f h. same-child .list (2 + 6 * y) (omega arith))
+        ∙ ap₂ (λ (x y : ℕ). placeOf b x 0 n (list b n (child b n c)) (y - 1)) (same-child .threes) (same-child .tables .table v l)
 
     -- its first address
     first-same : word b m (list b m k) (1 + 6 * threePlace b m k v) ≡ word b n (list b n (child b n c)) (1 + 6 * threePlace b n (child b n c) v)
     first-same =
         let few = place-most b m (threes b m k) 0 (list b m k) (tableFor b m k v - 1) in
-        kid .list (1 + 6 * threePlace b m k v) (omega (arith, few)) ∙ ap (λ (x : ℕ). word b n (list b n (child b n c)) (1 + 6 * x)) place-of-same
+        same-child .list (1 + 6 * threePlace b m k v) (omega (arith, few)) ∙ ap (λ (x : ℕ). word b n (list b n (child b n c)) (1 + 6 * x)) place-of-same
 
   -- ---- parts of rows
 
