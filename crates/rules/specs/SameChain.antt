@@ -71,7 +71,7 @@ EveryThreeKept =
     (m : List ℕ) → Sound (width m) m → (d i v₁ v₂ v₃ : ℕ) → ThreeAt (width m) m d i v₁ v₂ v₃ →
     (x : Call) → Spares (width m) m d i x → ThreeAt (width m) (after (width m) m x) d i v₁ v₂ v₃
 
--- the collect that passes is of the same child and the same directory index; the child's address in the caller may be another by then
+-- the collect that passes is of the same child, and its target is any address of the same directory index
 abbrev pub EverySameLater : Type 0
 EverySameLater =
     (m : List ℕ) → Sound (width m) m →
