@@ -34,7 +34,7 @@ enum tumashqin_refusal {
     TUMASHQIN_DONE = 0,        /* no refusal */
     TUMASHQIN_DAMAGED = 1,     /* memory not sound */
     TUMASHQIN_SIZE = 2,        /* format: no such edition, or the length is not N of its pages with N 16 to 256 (16 to 4,096) */
-    TUMASHQIN_ADDRESS = 3,     /* an address on page 0, past the edition's last, or not a multiple of 256 (load, store: of 4) */
+    TUMASHQIN_ADDRESS = 3,     /* an address on page 0, past the edition's last, or not a multiple of 256 (load, store: of 4); a target 0 is the parent */
     TUMASHQIN_TWICE = 4,       /* two of the five equal */
     TUMASHQIN_CHILD = 5,       /* no child of the caller has its descriptor there */
     TUMASHQIN_RIGHTS = 6,      /* add_vaddr: write and execute together, or a number above 7; any call: a right that is not held */
@@ -45,11 +45,15 @@ enum tumashqin_refusal {
     TUMASHQIN_CHAIN = 11,      /* a link is no page address or repeats a page, or the chain is too long */
     TUMASHQIN_FULL_TABLE = 12, /* the page table has a mapping */
     TUMASHQIN_DEPTH = 13,      /* the caller is 8 below the root */
-    TUMASHQIN_ROOT = 14,       /* the root leaves */
+    TUMASHQIN_ROOT = 14,       /* the root leaves, or names its parent as a target */
     TUMASHQIN_UNMAPPED = 15,   /* no mapping there */
     TUMASHQIN_KERNEL = 16,     /* mapped, not accessible (mapped_in_child: and not lent) */
     TUMASHQIN_SHORT = 17,      /* record or revision buffer too short */
-    TUMASHQIN_MAGIC = 18       /* the record's magic is wrong, or its begin is above its end */
+    TUMASHQIN_MAGIC = 18,      /* the record's magic is wrong, or its begin is above its end */
+    TUMASHQIN_SLOT_PAGE = 20,  /* the slot page is not in its partition's hand with read and write */
+    TUMASHQIN_SLOT = 21,       /* no such slot, or not one that the caller may resume */
+    TUMASHQIN_EMPTY_SLOT = 22, /* the child's slot has no context */
+    TUMASHQIN_EDITION = 24     /* not on pages of 4,096 bytes */
 };
 
 /* Rights of a page, to be added. */
@@ -121,6 +125,68 @@ uint64_t tumashqin_load(const uint32_t *words, size_t length, uint32_t address);
 
 /* 12. Writes the word at the address. Refusals: DAMAGED, ADDRESS, UNMAPPED, KERNEL, RIGHTS (write). */
 uint64_t tumashqin_store(uint32_t *words, size_t length, uint32_t address, uint32_t word);
+
+/* Saved contexts, on pages of 256 bytes; on pages of 4,096 the three calls below answer EDITION.
+ *
+ * Target. A child, by its descriptor's address, or 0 for the parent. It becomes current.
+ *
+ * Slots. A partition's slot page is the one at TUMASHQIN_SLOTS_AT in it; the root's is its last, at 256F: the start-up record's end less 256. It holds four
+ * slots of 16 words: a context's eleven, then valid (1 where there is a context; any other word means none), then four that stay. It is an ordinary
+ * page: it may be lent, taken, wiped, read and written. An ancestor can write it, so no saved context is promised to last.
+ *
+ * Flags. Each partition has a live flag (vcli), 0 or 1: word 12 of its descriptor. It is 0 when the partition is made, and only these calls change it. */
+
+/* The slots. Notify saves in the last two; no call saves in the first two. */
+enum {
+    TUMASHQIN_INT_CTX = 0,         /* the partition was interrupted */
+    TUMASHQIN_ISR_CTX = 1,         /* it had a fault */
+    TUMASHQIN_NOTIF_CHILD_CTX = 2, /* it notified a child */
+    TUMASHQIN_NOTIF_PARENT_CTX = 3 /* it notified its parent */
+};
+
+/* Words of a context and of a slot, valid's place in the slot, and where a partition other than the root has its slot page. */
+enum { TUMASHQIN_CONTEXT_WORDS = 11, TUMASHQIN_SLOT_WORDS = 16, TUMASHQIN_VALID_AT = 11, TUMASHQIN_SLOTS_AT = 0xFFF00 };
+
+/* A context, in the order of a slot's words. Bit 0 of pipflags is the flag. */
+struct tumashqin_context {
+    uint32_t eip, pipflags, eflags, registers[8];
+};
+
+/* 13. Saves eip, eflags and the registers, with the caller's flag as pipflags and valid 1, in the caller's slot: NOTIF_CHILD_CTX for a child,
+ * NOTIF_PARENT_CTX for the parent. A context that stood there is lost. The target's flag becomes 1; the caller's becomes 0 for a child, and stays for the
+ * parent. Refusals: DAMAGED, EDITION, ADDRESS, CHILD (ROOT for the parent), SLOT_PAGE (the caller's). */
+uint64_t tumashqin_notify(uint32_t *words, size_t length, uint32_t target, uint32_t eip, uint32_t eflags, uint32_t r0, uint32_t r1, uint32_t r2,
+                          uint32_t r3, uint32_t r4, uint32_t r5, uint32_t r6, uint32_t r7);
+
+/* 14. Saves nothing. The flags are those of notify. Refusals: DAMAGED, EDITION, ADDRESS, CHILD (ROOT for the parent). */
+uint64_t tumashqin_dispatch(uint32_t *words, size_t length, uint32_t target);
+
+/* 15. Takes the context from a slot of the target: its eleven words go to `out`, valid becomes 0, the target's flag bit 0 of pipflags and the caller's 0. Of
+ * a child any slot may be resumed, of the parent NOTIF_CHILD_CTX alone. Where that one of the parent has no context, the root becomes current instead, with
+ * flag 1, no slot changes, and the eleven words are 0. They are 0 where the call is refused, too. An `out` of fewer words gets as many as it has; words past
+ * the eleventh stay. Refusals: DAMAGED, EDITION, ADDRESS, CHILD (ROOT for the parent), SLOT, SLOT_PAGE (the target's), EMPTY_SLOT (a child's). */
+uint64_t tumashqin_resume(uint32_t *words, size_t length, uint32_t target, uint32_t slot, uint32_t *out, size_t out_length);
+
+/* Notify with a context, whose pipflags are not read: the kernel saves the caller's own flag. */
+static inline uint64_t tumashqin_notify_context(uint32_t *words, size_t length, uint32_t target, const struct tumashqin_context *context)
+{
+    const uint32_t *r = context->registers;
+    return tumashqin_notify(words, length, target, context->eip, context->eflags, r[0], r[1], r[2], r[3], r[4], r[5], r[6], r[7]);
+}
+
+/* Resume, with the eleven words as a context: all 0 where it is refused. */
+static inline uint64_t tumashqin_resume_context(uint32_t *words, size_t length, uint32_t target, uint32_t slot, struct tumashqin_context *context)
+{
+    uint32_t out[TUMASHQIN_CONTEXT_WORDS];
+    uint64_t answer = tumashqin_resume(words, length, target, slot, out, TUMASHQIN_CONTEXT_WORDS);
+    int k;
+    context->eip = out[0];
+    context->pipflags = out[1];
+    context->eflags = out[2];
+    for (k = 0; k < 8; k++)
+        context->registers[k] = out[3 + k];
+    return answer;
+}
 
 /* The verdict of a memory: 0 where it is sound, else DAMAGED. Every call but format asks this first. */
 uint32_t tumashqin_verdict(const uint32_t *words, size_t length);

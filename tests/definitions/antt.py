@@ -1,7 +1,8 @@
 """Runs the definitions of crates/*/specs: translates the part of antt that they are written in to Python functions.
 
 It reads the very files that the proofs are about, so that the definitions themselves are tried. Types, records and
-proofs are passed over; a definition is translated when it is first asked for."""
+proofs are passed over; a definition is translated when it is first asked for. A record is a dict by its fields' names,
+a pair a tuple."""
 import itertools, os, random, re
 
 CRATES = os.path.join(os.path.dirname(os.path.abspath(__file__)), '..', '..', 'crates')
@@ -95,7 +96,7 @@ SHORTCUTS = {('memory', 'Words', 'overwrite'): overwrite, ('memory', 'Words', 't
 
 def tokens(text):
     text = re.sub(r'λ\s+([^.]*?)\.\s', lambda m: ' λ %s . ' % m.group(1), text)
-    return re.sub(r'([(){}])', r' \1 ', text).split()
+    return re.sub(r'([(){},])', r' \1 ', text).split()
 
 
 class Module:
@@ -236,7 +237,11 @@ class Translation:
 
     def match(self, p, at, tests, bound):
         if isinstance(p, list):
-            if '∷' in p:
+            if ',' in p:
+                i = p.index(',')
+                for place, part in enumerate((p[:i], p[i + 1:])):
+                    self.match(part[0] if len(part) == 1 else part, '%s[%d]' % (at, place), tests, bound)
+            elif '∷' in p:
                 i = p.index('∷')
                 tests.append('len(%s) > 0' % at)
                 self.match(p[:i][0] if i == 1 else p[:i], at + '[0]', tests, bound)
@@ -335,7 +340,13 @@ class Translation:
         name = None if head == '(' else head
         f = self.atom(bound, True)
         args = []
-        while self.peek() is not None and self.peek() not in INFIX and self.peek() not in (')', 'in', '=', '|', ']'):
+        while self.peek() is not None and self.peek() not in INFIX and self.peek() not in (')', 'in', '=', '|', ']', ','):
+            field = re.match(r'\.(\w+)$', self.peek())
+            if field and not args:
+                # r .x: a field of a record
+                self.next()
+                name, f = None, '%s[%r]' % (f, field.group(1))
+                continue
             args.append(self.atom(bound))
         if name is not None and name not in bound and (name == 'some' or self.is_constructor(name)):
             return '(%s)' % ', '.join([repr(name)] + args + ['']).rstrip()
@@ -351,6 +362,9 @@ class Translation:
         t = self.next()
         if t == '(':
             e = self.expression(0, bound)
+            if self.peek() == ',':
+                self.next()
+                e = '(%s, %s)' % (e, self.expression(0, bound))
             assert self.next() == ')', (self.symbol, self.toks)
             return e
         if t in bound:

@@ -2,10 +2,11 @@
 
   python3 tests/definitions/compare.py [--quick]
 
-T and F at every page count. Guided random calls at several sizes of both editions, and with changes from one to the other: answer and a hash of every word
-after each call. Changed words of a memory in use: the verdict on soundness. The slips of slips.txt and every refusal that the memory at their start can give,
-in both editions; the pages that asked.txt asks for and those that a deleted child leaves in returned.txt, in both; the last virtual page of large.txt; and
-scripts for replay, good and bad. Prints what was compared; exits with 1 at the first difference."""
+T and F at every page count. Guided random calls at several sizes of both editions, and with changes from one to the other: answer, resume's eleven words and
+a hash of every word after each call. Changed words of a memory in use: the verdict on soundness. The slips of slips.txt and every refusal that the memory at
+their start can give, in both editions; the pages that asked.txt asks for and those that a deleted child leaves in returned.txt, in both; notify, dispatch and
+resume of contexts.txt, with small pages; the last virtual page of large.txt; the live flag changed in a root and in its child; and scripts for replay, good and
+bad. Prints what was compared; exits with 1 at the first difference."""
 import array, itertools, os, random, subprocess, sys, threading
 
 from antt import Program, ap, check_shortcuts
@@ -13,7 +14,7 @@ from antt import Program, ap, check_shortcuts
 HERE = os.path.dirname(os.path.abspath(__file__))
 WORDS = [64, 1024]  # of a page, by edition
 NAMES = ['formatAll', 'createPartition', 'deletePartition', 'addVAddr', 'removeVAddr', 'pageCount', 'prepare', 'collect', 'mappedInChild',
-         'enter', 'leave', 'load', 'store']
+         'enter', 'leave', 'load', 'store', 'notify', 'dispatch', 'resume']
 MORNING = [20, 15, 12, 1, 256, 512, 768, 1024, 1280, 5, 256, 4096, 12, 1536, 1792, 12, 1792, 2048, 6, 256, 4096, 1536, 3, 2304, 256, 4096, 3,
            8, 2304, 12, 256, 1, 9, 256, 12, 4100, 77, 10, 11, 2308, 4, 256, 4096, 7, 256, 4096, 2, 256]
 
@@ -66,6 +67,14 @@ def by_partition(f):
     return it
 
 
+def term(numbers):
+    """A call as the definitions have it: notify's eight registers are one record."""
+    name, given = NAMES[numbers[0]], tuple(numbers[1:])
+    if name == 'notify':
+        given = given[:3] + ({'r%d' % i: x for i, x in enumerate(given[3:])},)
+    return (name,) + given
+
+
 class Definitions:
     def __init__(self):
         self.program = Program()
@@ -76,19 +85,20 @@ class Definitions:
         self.width = self.program.get('memory', 'Edition', 'width')
         self.answer = self.program.get('rules', 'Editions', 'answer')
         self.after = self.program.get('rules', 'Editions', 'after')
+        self.context = self.program.get('rules', 'Editions', 'context')
         self.replay = self.program.get('rules', 'Replay', 'replay')
         self.hashed = [None, None]
 
     def passes(self, memory, numbers):
-        return ap(self.answer, memory, (NAMES[numbers[0]],) + tuple(numbers[1:]))[0] == 'ok'
+        return ap(self.answer, memory, term(numbers))[0] == 'ok'
 
     def call(self, memory, numbers):
-        """The answer with a hash of the memory after the call, and that memory."""
-        c = (NAMES[numbers[0]],) + tuple(numbers[1:])
-        answer, memory = ap(self.answer, memory, c), ap(self.after, memory, c)
+        """The answer, the words that resume answers beside, and a hash of the memory after the call; and that memory."""
+        c = term(numbers)
+        answer, context, memory = ap(self.answer, memory, c), ap(self.context, memory, c), ap(self.after, memory, c)
         if self.hashed[0] is not memory:
             self.hashed = [memory, fingerprint(memory)]
-        return '%s %d %s' % (answer + (self.hashed[1],)), memory
+        return ' '.join(str(x) for x in answer + tuple(context) + (self.hashed[1],)), memory
 
 
 def second(*args, stdin=b''):
@@ -163,6 +173,24 @@ def compare_damage(definitions, lines, memory, seed, count):
     return ', '.join('%s %d' % kv for kv in sorted(verdicts.items()))
 
 
+def compare_flags(definitions):
+    """The live flag of a root and of its child, and the word behind it, changed: the verdict that the rules give, by both."""
+    number = 0
+    for edition in 0, 1:
+        first, calls = in_edition('slips.txt', edition)
+        _, memory = run_file(definitions, [first] + [c for c, _ in calls[:14]])
+        for page, index, value in itertools.product([1, 9], [12, 13], [0, 1, 2, 3, 256, 2 ** 32 - 1]):
+            m = list(memory)
+            m[WORDS[edition] * page + index] = value
+            wanted = value == 0 or (index, value, edition) == (12, 1, 0)
+            words = b''.join(w.to_bytes(4, 'little') for w in m)
+            ours, theirs = definitions.sound(ap(definitions.width, m), m), second('judge', stdin=words) == b'[]\n'
+            if (ours, theirs) != (wanted, wanted):
+                differ('edition %d: %d in word %d of page %d' % (edition, value, index, page), ours, theirs)
+            number += 1
+    return number
+
+
 def scaled(edition, x):
     """An address with small pages as the one with large pages that has the same two indices and place; what is more than 2^20 stays."""
     return (x >> 14 << 22) + (x >> 8 & 63) * 4096 + x % 256 if edition and x <= 2 ** 20 else x
@@ -217,19 +245,25 @@ def compare_unwritable(definitions, edition):
 LENT = ['3 4608 256 6400 1', '3 4864 256 6656 2', '3 5120 256 6912 3', '3 5376 256 7168 3', '3 5632 256 7424 3', '3 5888 256 7680 3']
 PASSING = {1: [[6144, 6400, 6656, 6912, 7168], [6912, 7168, 7424, 7680, 6400]], 2: [[256], [4096]], 3: [[7424, 256, 8448, 5], [7424, 4096, 8448, 1]],
            4: [[256, 7680], [4096, 8192]], 5: [[256, 8192], [4096, 8192]], 6: [[256, 16384, 7168], [4096, 16384, 6912]], 7: [[256, 4096], [4096, 8192]],
-           8: [[4608], [6400]], 9: [[256], [4096]], 11: [[7168], [6912]], 12: [[7168, 7424], [6912, 7168]]}
+           8: [[4608], [6400]], 9: [[256], [4096]], 11: [[7168], [6912]], 12: [[7168, 7424], [6912, 7168]],
+           13: [[256] + [1] * 10, [0] + [1] * 10], 14: [[256], [4096]], 15: [[256, 2], [0, 2]]}
 PAGES = [0, 300, 1048576, 1044480, 4294963200, 256, 512, 2304, 4352, 4096, 5376, 6144, 6400, 6656, 7168, 7936, 8192]
 CHILDREN, TARGETS = [256, 4096, 512, 0, 1048576, 4294963200], [4096, 6144, 8192, 8448, 16384, 4294963200, 257, 0]
 RIGHTS, STORED = [0, 1, 4, 5, 6, 7, 8, 4294967295], [0, 7168, 7424]
 KINDS = {1: [PAGES] * 5, 2: [CHILDREN], 3: [PAGES, CHILDREN, TARGETS, RIGHTS], 4: [CHILDREN, TARGETS], 5: [CHILDREN, TARGETS], 6: [CHILDREN, TARGETS, PAGES],
-         7: [CHILDREN, TARGETS], 8: [PAGES], 9: [CHILDREN], 11: [PAGES + [4, 6914]], 12: [PAGES + [4, 6914], STORED]}
-# What undoes a call that passed, by its number and arguments; a page that was removed is lent to its child again.
+         7: [CHILDREN, TARGETS], 8: [PAGES], 9: [CHILDREN], 11: [PAGES + [4, 6914]], 12: [PAGES + [4, 6914], STORED],
+         13: [CHILDREN + [4, 300]] + [[0]] * 10, 14: [CHILDREN + [4, 300]], 15: [CHILDREN + [4, 300], [0, 1, 2, 3, 4, 4294967295]]}
+# What undoes a call that passed, by its number and arguments; a page that was removed is lent to its child again. After notify, dispatch and resume the caller
+# is current again; their flags and slots stay.
+BACK = lambda given, again: [10] if given[0] else [9, min(again)]
 UNDONE = {1: lambda given, again: [2, given[0]], 3: lambda given, again: [4, given[1], given[2]], 4: lambda given, again: [3] + again[given[0]],
-          6: lambda given, again: [7, given[0], given[1]], 9: lambda given, again: [10]}
+          6: lambda given, again: [7, given[0], given[1]], 9: lambda given, again: [10], 13: BACK, 14: BACK, 15: BACK}
 AGAIN = {256: [5888, 256, 7680, 3], 4096: [6144, 4096, 8192, 1]}
-# What each call has to be refused with; 1 and 2 are given for memories and lengths that are not sound, 10 and 13 need ten threes and eight levels.
+# What each call has to be refused with; 1 and 2 are given for memories and lengths that are not sound, 10 and 13 need ten threes and eight levels, 22 a slot
+# page of a child.
 REFUSED = {1: [3, 4, 7, 6], 2: [3, 5], 3: [3, 6, 5, 7, 8, 9], 4: [3, 5, 8, 15, 7], 5: [3, 5], 6: [3, 5, 9, 11, 7, 6], 7: [3, 5, 8, 12], 8: [3, 15, 16],
            9: [3, 5], 10: [14], 11: [3, 15, 16, 6], 12: [3, 15, 16, 6]}
+CONTEXTS = [{13: [3, 5, 14, 20], 14: [3, 5, 14], 15: [3, 5, 14, 21, 20]}, {13: [24], 14: [24], 15: [24]}]  # by edition
 
 
 def varied(number, passing, places):
@@ -270,7 +304,7 @@ def compare_refusals(definitions, edition, pairs, most):
                         make(UNDONE[number](call[1:], again))
 
     again = {scaled(edition, child): [scaled(edition, x) for x in given] for child, given in AGAIN.items()}
-    undone = 5, 8, 11, 12, 1, 3, 4, 6, 9
+    undone = 5, 8, 11, 12, 1, 3, 4, 6, 9, 13, 14, 15
     tried(0, *undone)
     make([9, scaled(edition, 256)])
     tried(1, *undone, 7, 2)
@@ -278,7 +312,8 @@ def compare_refusals(definitions, edition, pairs, most):
     tried(0, 7, 2)
     compare_lines('refusals of edition %d' % edition, lines, out)
     given = {(int(call.split()[0]), int(said.split()[1])) for call, said in zip(['0'] + lines[1:], out) if said.startswith('no ')}
-    missing = [(number, n) for number, ns in REFUSED.items() for n in ns if (number, n) not in given]
+    refused = {**REFUSED, **CONTEXTS[edition]}
+    missing = [(number, n) for number, ns in refused.items() for n in ns if (number, n) not in given]
     if missing:
         differ('refusals of edition %d that did not occur' % edition, sorted(given), missing)
     return len(lines)
@@ -340,7 +375,9 @@ def main():
             print('edition %d: kernel pages without write are wiped' % edition)
         pairs, most = ((60, 1000), (20, 1))[edition] if quick else ((300, 1000), (100, 20))[edition]
         print('edition %d: refusals: %d calls agree' % (edition, compare_refusals(d, edition, pairs, most)))
+    print('edition 0: contexts.txt: %d calls agree' % compare_listed(d, 'contexts.txt', *listed('contexts.txt', 0)))
     print('edition 1: the last virtual page: %d calls agree' % compare_listed(d, 'large.txt', *listed('large.txt', 1)))
+    print('live flags: %d verdicts agree' % compare_flags(d))
     print('replay: %d scripts agree' % compare_replay(d))
     total = {}
     for parts, changed in QUICK if quick else FULL:

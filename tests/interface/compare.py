@@ -1,5 +1,6 @@
 """Compares the functions of include/tumashqin.h, bindings/rust/src/raw.rs and crates/exports/src by name, arguments and result, and those that the
-archive has by name; and the refusals of the header, bindings/rust/src/refusal.rs and crates/rules/specs/Refusal.antt by number and name.
+archive has by name; the refusals of the header, bindings/rust/src/refusal.rs and crates/rules/specs/Refusal.antt by number and name; and a context's
+parts, in order, and the constants for slots in the header and bindings/rust/src/context.rs.
 
   python3 tests/interface/compare.py        # after rt staticlib exports
 
@@ -9,7 +10,7 @@ import glob, os, re, subprocess, sys
 
 ROOT = os.path.join(os.path.dirname(os.path.abspath(__file__)), '..', '..')
 FILES = {'header': 'include/tumashqin.h', 'rust': 'bindings/rust/src/raw.rs', 'exports': 'crates/exports/src/**/*.rt',
-         'refusal.rs': 'bindings/rust/src/refusal.rs', 'Refusal.antt': 'crates/rules/specs/Refusal.antt'}
+         'refusal.rs': 'bindings/rust/src/refusal.rs', 'Refusal.antt': 'crates/rules/specs/Refusal.antt', 'context.rs': 'bindings/rust/src/context.rs'}
 ARCHIVE = 'target/staticlib/libexports.a'
 C_NUMBERS = {'u8': 'uint8_t', 'u32': 'uint32_t', 'u64': 'uint64_t', 'usize': 'size_t'}
 CHANGES = [
@@ -18,12 +19,23 @@ CHANGES = [
     ('header', 'uint32_t address, uint32_t word)', 'uint32_t address, uint64_t word)'),
     ('header', 'uint32_t tumashqin_record_end(', 'uint64_t tumashqin_record_end('),
     ('header', 'TUMASHQIN_SHORT = 17', 'TUMASHQIN_SHORT = 19'),
+    ('header', 'uint32_t eip, uint32_t eflags', 'uint32_t eflags, uint32_t eip'),
+    ('header', 'uint32_t *out, size_t out_length', 'uint32_t *out, size_t length_out'),
+    ('header', 'TUMASHQIN_EMPTY_SLOT = 22', 'TUMASHQIN_EMPTY_SLOT = 23'),
+    ('header', 'eip, pipflags, eflags, registers[8]', 'eip, eflags, pipflags, registers[8]'),
+    ('header', 'TUMASHQIN_SLOTS_AT = 0xFFF00', 'TUMASHQIN_SLOTS_AT = 0xFF000'),
     ('rust', 'fn tumashqin_leave(', 'fn tumashqin_left('),
     ('rust', 'first: u32) -> u64', 'first: u32) -> u32'),
+    ('rust', '        r7: u32,\n', ''),
+    ('rust', 'out: *mut u32', 'out: *const u32'),
     ('exports', '#[no_mangle]\npub extern "C" fn tumashqin_enter', 'pub fn tumashqin_enter'),
     ('exports', 'out: &mut [u8]', 'out: &[u8]'),
+    ('exports', 'out: &mut [u32]', 'out: &[u32]'),
     ('exports', 'words: &mut [u32], child: u32)', 'words: &mut [u32], child: u32, target: u32)'),
     ('refusal.rs', '    Size,\n', ''),
+    ('refusal.rs', 'Edition = 24', 'Edition = 23'),
+    ('context.rs', 'registers: [u32; 8]', 'registers: [u32; 7]'),
+    ('context.rs', 'ISR_CTX: u32 = 1', 'ISR_CTX: u32 = 2'),
     ('Refusal.antt', 'number HAND = 7', 'number HAND = 8'),
 ]
 
@@ -103,6 +115,21 @@ def of_refusal_rs(text):
     return {re.sub(r'(?<=[a-z])(?=[A-Z])', '_', name).upper(): number for name, number in names.items()}
 
 
+def header_context(text):
+    """The parts of a context, each with its number of words where that is not 1; and all constants that are no refusals."""
+    text = bare(text)
+    fields = parts(matched(r'uint32_t (.*);', ' '.join(re.search(r'struct tumashqin_context \{(.*?)\}', text, re.S)[1].split()))[0], ',')
+    constants = re.findall(r'TUMASHQIN_(\w+) = (\w+)', ' '.join(re.findall(r'\benum \{(.*?)\}', text, re.S)))
+    return [matched(r'(\w+)(?:\[(\d+)\])?', field) for field in fields], {name: int(number, 0) for name, number in constants}
+
+
+def rust_context(text):
+    text = bare(text)
+    fields = parts(re.search(r'pub struct Context \{(.*?)\}', text, re.S)[1], ',')
+    constants = re.findall(r'pub const (\w+): \w+ = (\w+);', text)
+    return [matched(r'pub (\w+): (?:u32|\[u32; (\d+)\])', field) for field in fields], {name: int(number, 0) for name, number in constants}
+
+
 def of_refusal_antt(text):
     return {name.replace('-', '_'): int(number) for name, number in re.findall(r'(?m)^number ([A-Z-]+) = (\d+)$', text)}
 
@@ -112,7 +139,7 @@ def c_text(function):
 
 
 def differences(texts, archive):
-    """What differs, as lines; and how many functions and refusals the header has."""
+    """What differs, as lines; and how many functions and refusals the header has, and how many constants are compared."""
     functions, refusals = of_header(texts['header'])
     out = []
     for other, those in ('rust', of_rust(texts['rust'])), ('exports', of_exports(texts['exports'])):
@@ -124,7 +151,13 @@ def differences(texts, archive):
         for name in sorted(set(refusals) | set(those)):
             if refusals.get(name) != those.get(name):
                 out.append('%s: %s in %s, %s in %s' % (name, refusals.get(name), FILES['header'], those.get(name), FILES[other]))
-    return out, (len(functions), len(refusals))
+    (parts_c, constants_c), (parts_rust, constants_rust) = header_context(texts['header']), rust_context(texts['context.rs'])
+    if parts_c != parts_rust:
+        out.append('a context: %s in %s, %s in %s' % (parts_c, FILES['header'], parts_rust, FILES['context.rs']))
+    for name, number in constants_rust.items():
+        if constants_c.get(name) != number:
+            out.append('%s: %s in %s, %s in %s' % (name, constants_c.get(name), FILES['header'], number, FILES['context.rs']))
+    return out, (len(functions), len(refusals), len(constants_rust))
 
 
 def main():
@@ -138,7 +171,8 @@ def main():
             different.append('%s has no `%s` to be changed' % (FILES[name], old))
         elif not differences(dict(texts, **{name: texts[name].replace(old, new, 1)}), archive)[0]:
             different.append('no difference with `%s` in %s' % (new, FILES[name]))
-    print('\n'.join(different) if different else '%d functions and %d refusals agree; %d changed copies do not' % (counts + (len(CHANGES),)))
+    agree = '%d functions, %d refusals, a context and %d constants agree; %d changed copies do not' % (counts + (len(CHANGES),))
+    print('\n'.join(different) if different else agree)
     sys.exit(bool(different))
 
 

@@ -25,10 +25,10 @@ def types(text):
 
 
 def offered(files):
-    """What another crate can name, with the file that has it: of the root, of public modules, and what is used on from private ones."""
+    """What another crate can name, with the file that has it: of the root, of public modules, and what is used on from private ones or from other crates."""
     lib = files['lib']
     names = [('lib', name) for name in list(heads(lib)) + sorted(types(lib))]
-    names += [(module, name) for module, name in re.findall(r'^pub use (\w+)::(\w+);', lib, re.M) if module in files]
+    names += re.findall(r'^pub use (\w+)::(\w+);', lib, re.M)
     for module in re.findall(r'^pub mod (\w+);', lib, re.M):
         names += [(module, name) for name in list(heads(files[module])) + sorted(types(files[module]))]
     return sorted(set(names))
@@ -42,7 +42,8 @@ def main():
         for module, name in offered(files):
             if crate == 'record' and name not in READER:
                 continue
-            head = heads(files[module]).get(name, '' if name in types(files[module]) else None)
+            text = files[module] if module in files else '\n'.join(sources(root, module).values())
+            head = heads(text).get(name, '' if name in types(text) else None)
             if head is None or re.search(r'^\s*requires\b', head, re.M):
                 print('%s::%s: %s' % (crate, name, 'not found' if head is None else 'it has a `requires`'))
                 wrong += 1

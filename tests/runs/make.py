@@ -1,10 +1,12 @@
-"""Writes the sequences of sequences.py as the input of the program crates/runs and the output that it is held to, which the second program alone tells.
+"""Writes the sequences of sequences.py and contexts.py as the input of the program crates/runs and the output that it is held to, which the second
+program alone tells.
 
   python3 tests/runs/make.py [--check]     # --check: compare with the stored files instead of writing them
 
 Prints how often each call gives each answer there; fails where one of the rules' answers is left out."""
 import os, subprocess, sys
 
+import contexts
 import sequences
 
 HERE = os.path.dirname(os.path.abspath(__file__))
@@ -23,8 +25,8 @@ def made(seed, count, pages, edition):
 
 def memories():
     s = sequences
-    out = s.barred() + s.unformatted() + s.deep() + s.eleven() + s.grandchildren() + s.returned() + s.asked() + s.rights() + s.together() + s.choices()
-    out += s.changes() + s.large_pages()
+    out = s.barred() + s.unformatted() + s.deep() + s.eleven() + s.grandchildren() + s.returned() + s.asked() + s.rights() + s.refusals() + s.together()
+    out += s.choices() + s.changes() + s.large_pages() + contexts.all_sequences()
     for runs in s.GUIDED:
         words, = {[64, 1024][edition] * pages for _, _, pages, edition in runs}
         out.append((words, [part for run in runs for part in s.guided(made(*run), run[3])]))

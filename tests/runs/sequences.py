@@ -1,4 +1,5 @@
-"""The sequences that the program runs is given, in order: for each memory how many words it has, and parts, each a list of calls run at once.
+"""The sequences that the program runs is given, in order: for each memory how many words it has, and parts, each a list of calls run at once. Those
+about notify, dispatch and resume are in contexts.py.
 
 A call is its number and its arguments; 0 is format, whose argument is the edition. Every word of a memory starts as 7."""
 
@@ -7,11 +8,11 @@ BOTH = 16384             # words of 256 small pages, and of 16 large ones
 LOFT = 64 * PAGE         # where pages are lent to a child: its table at directory index 1, with small pages
 
 
-def twelve(page):
+def each(page):
     """Each call once, with addresses on the first pages."""
     a = [page * k for k in range(17)]
     return [[1] + a[1:6], [2, a[1]], [3, a[1], a[2], a[16], 3], [4, a[1], a[16]], [5, a[1], a[16]], [6, a[1], a[16], a[2]], [7, a[1], a[16]],
-            [8, a[1]], [9, a[1]], [10], [11, a[1]], [12, a[1], 1]]
+            [8, a[1]], [9, a[1]], [10], [11, a[1]], [12, a[1], 1], [13, a[1]] + list(range(10)), [14, a[1]], [15, a[1], 0]]
 
 
 def morning(page):
@@ -40,13 +41,13 @@ def down_with(base, rights, size=PAGE):
 
 def barred():
     """No length that is permitted: format is refused with 2 and every other call with 1. 15 and 257 small pages, a word too few or too many, one word."""
-    calls = twelve(PAGE)
+    calls = each(PAGE)
     return [(words, [[[0, 0], [0, 1]] + calls[:6], calls[6:]]) for words in (15 * 64, 257 * 64, 16 * 64 - 1, 16 * 64 + 1, BOTH - 1, BOTH + 1, BOTH + 63, 1)]
 
 
 def unformatted():
     """A length that is permitted, but no header yet: every call is refused with 1 until format."""
-    return [(words, alone(twelve(page) + [[0, edition]] + twelve(page))) for words, page, edition in ((16 * 64, PAGE, 0), (17 * 1024, LARGE, 1))]
+    return [(words, alone(each(page) + [[0, edition]] + each(page))) for words, page, edition in ((16 * 64, PAGE, 0), (17 * 1024, LARGE, 1))]
 
 
 def deep():
@@ -126,12 +127,32 @@ def rights():
     return out + [(40 * 64, alone([[0, 0]] + family))]
 
 
+def refusals():
+    """What guided calls meet seldom: each call with each of its addresses bad; five pages of which one is given twice or not in hand, or may not be written;
+    no tables, and tables that are there already; chains that are none."""
+    addresses = {1: 5, 2: 1, 3: 3, 4: 2, 5: 2, 6: 3, 7: 2, 8: 1, 9: 1, 10: 0, 11: 1, 12: 1, 13: 1, 14: 1, 15: 1}
+    out = []
+    for words, size, edition in (40 * 64, PAGE, 0), (20 * 1024, LARGE, 1):
+        a, loft = [size * k for k in range(40)], size // 4 * size
+        calls = [[0, edition]]
+        for call in each(size):
+            calls += [call[:k] + [bad] + call[k + 1:] for k in range(1, 1 + addresses[call[0]]) for bad in (0, 4, size + 2, 2 ** 20)]
+        calls += [[1] + a[1:5] + [a[2]], [1] + a[1:5] + [a[35]], [12, a[35], 1], [11, a[35]], [1] + a[1:6], [4, a[1], loft], [7, a[1], loft]]
+        for links in [4], [a[6]], [a[7], a[6]], [a[7], a[8], a[9]], [a[7], a[8], 0], [a[7], a[8], 0]:
+            calls += [[12, page, link] for page, link in zip(a[6:], links)] + [[6, a[1], loft, a[6]]]
+        out.append((words, alone(calls)))
+    # a child that may not write some of its pages
+    own = [LOFT + PAGE * k for k in range(8)]
+    held = [[1] + own[1:6], [1] + own[:5], [6, LOFT, LOFT, own[5]], [12, own[6], own[5]], [6, LOFT, LOFT, own[6]]]
+    return out + [(40 * 64, alone([[0, 0]] + down_with(PAGE, [3, 3, 3, 3, 3, 1, 3, 3]) + held))]
+
+
 def together():
     """Many calls in one part, a cut call, and numbers that no call has: what follows in the part is not run, the next part is."""
     chained = [[12, 1536, 1792], [12, 1792, 2048], [6, 256, 4096, 1536]]
     lend = [[3, 2304, 256, 4096, 3], [8, 2304], [9, 256], [12, 4100, 77], [10], [11, 2308]]
     child = [1, 256, 512, 768, 1024, 1280]
-    return [(20 * 64, [[[0, 0], child] + chained + lend, [[11, 2308], child[:5]], [[13]], [[11, 2308], [4294967295], [0, 0]], [[12, 2308]],
+    return [(20 * 64, [[[0, 0], child] + chained + lend, [[11, 2308], child[:5]], [[16]], [[11, 2308], [4294967295], [0, 0]], [[12, 2308]],
                        [[4, 256, 4096], [7, 256, 4096], [2, 256]], [[10]] * 64, [[0, 0]] * 32])]
 
 
@@ -148,7 +169,7 @@ def changes():
     small = [[0, 0]] + creates + [[0, 2], [12, PAGE * 6, 7], [9, PAGE]]
     large = [[0, 1]] + creates + [[0, 2], [12, LARGE * 7 + 4092, 7], [12, PAGE, 1], [9, LARGE]]
     return [(BOTH, alone(large + small + large + [[10]] + [[0, 0]] + morning(PAGE))),
-            (BOTH, alone(small + large + [[0, 0]] + morning(PAGE)[:9] + [[0, 1]] + twelve(LARGE) + [[0, 1]]))]
+            (BOTH, alone(small + large + [[0, 0]] + morning(PAGE)[:9] + [[0, 1]] + each(LARGE) + [[0, 1]]))]
 
 
 def large_pages():
@@ -163,8 +184,8 @@ def large_pages():
     return [(20 * 1024, alone([[0, 1]] + morning(LARGE) + [[0, 0], [0, 1]] + morning(LARGE))), (20 * 1024, alone(edge))]
 
 
-# The guided sequences, for each memory one after the other from format: seed, number of calls, N and edition. With those above every answer of every call
-# occurs. A memory that has both editions changes from one to the other.
+# The guided sequences, for each memory one after the other from format: seed, number of calls, N and edition. Every answer of every call occurs in the others,
+# too. A memory that has both editions changes from one to the other.
 GUIDED = [[(1, 300, 16, 0)], [(2, 600, 20, 0)], [(3, 1500, 73, 0)], [(4, 1500, 256, 0)], [(5, 200, 16, 1)], [(6, 400, 20, 1)],
           [(7, 80, 16, 1), (8, 120, 256, 0), (9, 80, 16, 1), (10, 120, 256, 0)]]
 

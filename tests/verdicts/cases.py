@@ -1,5 +1,6 @@
 """Memories to be judged: calls from format, then changed words. For each soundness sentence one memory that breaks just that sentence, and sound ones;
-besides, lent pages that are mapped twice or not at all, in a child whose shadow 2 words rise and in one where they fall.
+besides, lent pages that are mapped twice or not at all, in a child whose shadow 2 words rise and in one where they fall; and live flags, word 12 of a
+descriptor.
 
 Numbers of pages for N = 40: root virtual page v is page 8 + v; the child is page 9 with its three in pages 14 to 16, the grandchild page 17 with its
 three in pages 22 to 24, and root page 17 is lent through both. Memories of 16 large pages have the length of 256 small ones and are formatted so after
@@ -79,6 +80,16 @@ CASES = [
     ('12: a kernel page of a grandchild to write and execute', 40, FAMILY, [at(14, 16, 4377)], [12]),
     ('12: a page of a grandchild with all rights', 40, FAMILY, [at(14, 24, 6431), at(22, 32, 6431)], [12]),
     ('rights to read and execute', 40, FALLING, [at(14, 16, 4631)], []),
+    ('flag 1 of the root', 40, FAMILY, [at(1, 12, 1)], []),
+    ('flag 1 of a child and of a grandchild', 40, FAMILY, [at(9, 12, 1), at(17, 12, 1)], []),
+    ('a child is current by dispatch', 40, FAMILY + [[14, 256]], [], []),
+    ('the root is current by dispatch from a child', 40, FAMILY + [[9, 256], [14, 0]], [], []),
+    ('1: flag 2 of the root', 40, FAMILY, [at(1, 12, 2)], [1]),
+    ('1: flag 2 of a child', 40, FAMILY, [at(9, 12, 2)], [1]),
+    ('1: flag 3 of a grandchild', 40, FAMILY, [at(17, 12, 3)], [1]),
+    ("1: the last bit of a child's flag", 40, FAMILY, [at(9, 12, 2147483649)], [1]),
+    ("1: a child's word after the flag", 40, FAMILY, [at(9, 13, 1)], [1]),
+    ("1: the root's word after the flag", 40, FAMILY, [at(1, 13, 1)], [1, 2]),
     ('large pages: fresh', 256, [[0, 1]], [], []),
     ('large pages: a child', 256, LARGE_CHILD, [], []),
     ('large pages: a child is current', 256, LARGE_CHILD + [[9, 4096]], [], []),
@@ -89,6 +100,8 @@ CASES = [
     ('large pages: 1: the last header word', 256, LARGE_CHILD, [at_large(0, 1023, 1)], [1]),
     ('large pages: 1: the last flag bit', 256, LARGE_CHILD, [at_large(6, 7, 61471 + 2048)], [1]),
     ('large pages: 1: the last list word', 256, LARGE_CHILD, [at_large(13, 1023, 4096)], [1]),
+    ('large pages: 1: flag 1 of a child', 256, LARGE_CHILD, [at_large(9, 12, 1)], [1]),
+    ('large pages: 1: flag 1 of the root', 256, LARGE_CHILD, [at_large(1, 12, 1)], [1]),
     ('large pages: 2: a right of the root gone', 256, LARGE_CHILD, [at_large(6, 7, 61471 - 16)], [2]),
     ("large pages: 4: a child's parent another page", 256, LARGE_CHILD, [at_large(9, 11, 8192)], [4]),
     ('large pages: 5: current no partition', 256, LARGE_CHILD, [(4, 40960)], [5]),

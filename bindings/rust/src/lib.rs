@@ -21,12 +21,14 @@
 //! ```
 #![deny(missing_docs)]
 
+mod context;
 mod edition;
 mod memory;
 mod raw;
 mod record;
 mod refusal;
 
+pub use context::{Context, CONTEXT_WORDS, INT_CTX, ISR_CTX, NOTIF_CHILD_CTX, NOTIF_PARENT_CTX, SLOTS_AT, SLOT_WORDS};
 pub use edition::{Edition, PAGE_WORDS};
 pub use memory::{verdict, Memory, EXECUTE, READ, WRITE};
 pub use record::{read_record, record_begin, record_end, revision, Record, RECORD_BYTES, REVISION_BYTES};

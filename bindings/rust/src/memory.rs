@@ -1,4 +1,4 @@
-//! The calls, over lent words.
+//! Format and the twelve calls of document 01, over lent words.
 use crate::edition::Edition;
 use crate::raw;
 use crate::refusal::{answered, done, Refusal};
@@ -172,7 +172,7 @@ impl<'a> Memory<'a> {
         })
     }
 
-    fn parts(&mut self) -> (*mut u32, usize) {
+    pub(crate) fn parts(&mut self) -> (*mut u32, usize) {
         (self.words.as_mut_ptr(), self.words.len())
     }
 }

@@ -22,6 +22,30 @@ extern "C" {
     pub fn tumashqin_leave(words: *mut u32, length: usize) -> u64;
     pub fn tumashqin_load(words: *const u32, length: usize, address: u32) -> u64;
     pub fn tumashqin_store(words: *mut u32, length: usize, address: u32, word: u32) -> u64;
+    pub fn tumashqin_notify(
+        words: *mut u32,
+        length: usize,
+        target: u32,
+        eip: u32,
+        eflags: u32,
+        r0: u32,
+        r1: u32,
+        r2: u32,
+        r3: u32,
+        r4: u32,
+        r5: u32,
+        r6: u32,
+        r7: u32,
+    ) -> u64;
+    pub fn tumashqin_dispatch(words: *mut u32, length: usize, target: u32) -> u64;
+    pub fn tumashqin_resume(
+        words: *mut u32,
+        length: usize,
+        target: u32,
+        slot: u32,
+        out: *mut u32,
+        out_length: usize,
+    ) -> u64;
     pub fn tumashqin_verdict(words: *const u32, length: usize) -> u32;
     pub fn tumashqin_write_record(
         words: *const u32,

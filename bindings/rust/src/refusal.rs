@@ -1,7 +1,7 @@
 //! Why a call was refused, and answers as results.
 use std::{error, fmt};
 
-/// Why a call was refused, by document 01's names. A call gives the first that applies, in its order.
+/// Why a call was refused, by the names of documents 01 and 02. A call gives the first that applies, in its order.
 #[derive(Clone, Copy, Debug, PartialEq, Eq, Hash)]
 #[repr(u32)]
 pub enum Refusal {
@@ -9,7 +9,7 @@ pub enum Refusal {
     Damaged = 1,
     /// Format: length isn't 64N with N 16 to 256.
     Size,
-    /// An address argument ≥ 2^20, on page 0, or not a multiple of 256 (load, store: of 4).
+    /// An address argument ≥ 2^20, on page 0, or not a multiple of 256 (load, store: of 4). A target 0 is the parent.
     Address,
     /// Two of the five equal.
     Twice,
@@ -31,7 +31,7 @@ pub enum Refusal {
     FullTable,
     /// Caller is 8 below the root.
     Depth,
-    /// Root leaves.
+    /// Root leaves, or names its parent as a target.
     Root,
     /// No mapping there.
     Unmapped,
@@ -41,18 +41,26 @@ pub enum Refusal {
     Short,
     /// Record's magic wrong, or begin above end.
     Magic,
+    /// The slot page isn't in its partition's hand with read and write.
+    SlotPage = 20,
+    /// A slot number above 3, or a slot of the parent's that a child may not resume.
+    Slot,
+    /// The child's slot isn't valid.
+    EmptySlot,
+    /// The call isn't there with pages of 4,096 bytes.
+    Edition = 24,
 }
 
 use Refusal::*;
 
 impl Refusal {
-    /// Every refusal, by its number from 1 on.
-    pub const ALL: [Refusal; 18] = [
+    /// Every refusal, in the order of their numbers.
+    pub const ALL: [Refusal; 22] = [
         Damaged, Size, Address, Twice, Child, Rights, Hand, Table, Taken, List, Chain, FullTable, Depth, Root,
-        Unmapped, Kernel, Short, Magic,
+        Unmapped, Kernel, Short, Magic, SlotPage, Slot, EmptySlot, Edition,
     ];
 
-    /// The refusal's number, 1 to 18.
+    /// The refusal's number, 1 to 24; none has 19 or 23.
     pub fn number(self) -> u32 {
         self as u32
     }
@@ -78,11 +86,15 @@ impl Refusal {
             Chain => "bad chain of pages",
             FullTable => "page table has a mapping",
             Depth => "too deep below the root",
-            Root => "the root cannot leave",
+            Root => "the root has no parent",
             Unmapped => "no mapping there",
             Kernel => "page not accessible",
             Short => "buffer too short",
             Magic => "not a record",
+            SlotPage => "slot page not in hand, or not to be read and written",
+            Slot => "no such slot, or not one that the caller may resume",
+            EmptySlot => "no context in the slot",
+            Edition => "not with pages of 4,096 bytes",
         }
     }
 }
@@ -99,7 +111,7 @@ impl error::Error for Refusal {}
 pub(crate) fn done(number: u32) -> Result<(), Refusal> {
     match number {
         0 => Ok(()),
-        _ => Err(Refusal::from_number(number).expect("the library refuses by a number of document 01")),
+        _ => Err(Refusal::from_number(number).expect("the library refuses by a number of the documents")),
     }
 }
 

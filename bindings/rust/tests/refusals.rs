@@ -1,8 +1,8 @@
 //! Refusals: their numbers, and that a call which refuses changes no word.
-use tumashqin::{verdict, Edition, Memory, Refusal, EXECUTE, PAGE_WORDS, READ, WRITE};
+use tumashqin::{verdict, Context, Edition, Memory, Refusal, EXECUTE, PAGE_WORDS, READ, WRITE};
 
-/// What each of the twelve calls answers, with arguments that a sound memory would take.
-fn all_calls(memory: &mut Memory) -> [Result<u32, Refusal>; 12] {
+/// What each call answers, with arguments that a sound memory would take.
+fn all_calls(memory: &mut Memory) -> [Result<u32, Refusal>; 15] {
     [
         memory.create_partition([256, 512, 768, 1024, 1280]),
         memory.delete_partition(256),
@@ -16,18 +16,22 @@ fn all_calls(memory: &mut Memory) -> [Result<u32, Refusal>; 12] {
         memory.leave(),
         memory.load(2308),
         memory.store(1536, 1),
+        memory.notify(256, &Context::default()),
+        memory.dispatch(256),
+        memory.resume(256, 0).map(|context| context.eip),
     ]
 }
 
 #[test]
 fn every_number_is_its_refusals() {
-    for (i, refusal) in Refusal::ALL.into_iter().enumerate() {
-        assert_eq!(refusal.number() as usize, i + 1);
+    assert!(Refusal::ALL.into_iter().map(Refusal::number).eq((1..=18).chain([20, 21, 22, 24])));
+    for refusal in Refusal::ALL {
         assert_eq!(Refusal::from_number(refusal.number()), Some(refusal));
         assert!(!refusal.to_string().is_empty());
     }
-    assert_eq!(Refusal::from_number(0), None);
-    assert_eq!(Refusal::from_number(19), None);
+    for number in [0, 19, 23, 25] {
+        assert_eq!(Refusal::from_number(number), None);
+    }
 }
 
 #[test]
@@ -38,7 +42,7 @@ fn damaged_memory_changes_by_no_call() {
     words[0] = 21;
     let before = words;
     assert_eq!(verdict(&words), Err(Refusal::Damaged));
-    assert_eq!(all_calls(&mut Memory::over(&mut words)), [Err(Refusal::Damaged); 12]);
+    assert_eq!(all_calls(&mut Memory::over(&mut words)), [Err(Refusal::Damaged); 15]);
     assert_eq!(words, before);
 }
 
@@ -59,7 +63,7 @@ fn no_child_has_a_page_to_write_and_execute() {
     words[14 * PAGE_WORDS + 16] |= 4 * WRITE;
     let before = words;
     assert_eq!(verdict(&words), Err(Refusal::Damaged));
-    assert_eq!(all_calls(&mut Memory::over(&mut words)), [Err(Refusal::Damaged); 12]);
+    assert_eq!(all_calls(&mut Memory::over(&mut words)), [Err(Refusal::Damaged); 15]);
     assert_eq!(words, before);
 }
 
@@ -69,7 +73,7 @@ fn memory_of_a_wrong_length_changes_by_no_call() {
         let mut words = vec![7; length];
         assert_eq!(Memory::format(&mut words, Edition::Pages256).unwrap_err(), Refusal::Size);
         assert_eq!(Memory::over(&mut words).verdict(), Err(Refusal::Damaged));
-        assert_eq!(all_calls(&mut Memory::over(&mut words)), [Err(Refusal::Damaged); 12]);
+        assert_eq!(all_calls(&mut Memory::over(&mut words)), [Err(Refusal::Damaged); 15]);
         assert_eq!(words, vec![7; length]);
     }
 }

@@ -8,7 +8,7 @@ pub use packing::pack;
 ghost use mathlib.Core.Path.{_≡_};
 ghost use Prim.Native.Nat.{_≤_};
 ghost use Rattle.rules.specs.Row;
-ghost use Rattle.answers.specs.Said.{said};
+ghost use Rattle.answers.specs.Said.{said, Told};
 
 pub enum Answer {
     Done(u32),
@@ -30,6 +30,10 @@ pub enum Answer {
     Kernel,
     Short,
     Magic,
+    SlotPage,
+    Slot,
+    EmptySlot,
+    Edition,
 }
 
 // The answer by a refusal's number, 0 where nothing is refused; x is the word of a call that is done.
@@ -57,5 +61,19 @@ pub fn reply(n: u32, x: u32) -> Answer
         16 => Answer::Kernel,
         17 => Answer::Short,
         _ => Answer::Magic,
+    }
+}
+
+// The same for notify, dispatch and resume (document 02, L8), whose word is 0.
+pub fn context_reply(n: u32) -> Answer
+    requires { ⌜ Told n ⌝ }
+    ensures { λ r. ⌜ said r ≡ Row.reply n 0 ⌝ }
+{
+    match n {
+        20 => Answer::SlotPage,
+        21 => Answer::Slot,
+        22 => Answer::EmptySlot,
+        24 => Answer::Edition,
+        _ => reply(n, 0),
     }
 }

@@ -30,5 +30,9 @@ pub fn outcome_of(a: Answer) -> Outcome
         Answer::Kernel => Outcome(false, 16),
         Answer::Short => Outcome(false, 17),
         Answer::Magic => Outcome(false, 18),
+        Answer::SlotPage => Outcome(false, 20),
+        Answer::Slot => Outcome(false, 21),
+        Answer::EmptySlot => Outcome(false, 22),
+        Answer::Edition => Outcome(false, 24),
     }
 }

@@ -2,4 +2,5 @@ pub mod Reached
 pub mod Computing
 pub mod Cases
 pub mod Morning
+pub mod Contexts
 pub mod Pair

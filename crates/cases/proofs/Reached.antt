@@ -17,17 +17,18 @@ use Rattle.soundness.proofs.Whole.{sound?}
 use Rattle.rules.specs.Refusal.{DAMAGED, SIZE}
 use Rattle.rules.specs.Row.{Answer, _when_, first, reply, pass}
 use Rattle.rules.specs.Call.{Call, choice, formatAll, createPartition, deletePartition, addVAddr, removeVAddr, pageCount, prepare, collect}
-use Rattle.rules.specs.Call.{mappedInChild, enter, leave, load, store}
+use Rattle.rules.specs.Call.{mappedInChild, enter, leave, load, store, notify, dispatch, resume, resumption}
 use Rattle.rules.specs.Conditions.{damaged}
 use Rattle.rules.specs.Refusals.{refusals, refusal}
 use Rattle.rules.specs.Effects.{effect}
 use Rattle.rules.specs.Calls as C
-use Rattle.rules.specs.Editions.{answer, after, run, answers, nextEdition, NoFormat}
+use Rattle.rules.specs.Editions.{answer, context, after, run, answers, contexts, nextEdition, NoFormat}
 use Rattle.rules.proofs.Rows.{on, first-is, first-self}
 use Rattle.rules.proofs.steps.Formatted.{inv-format}
 use Rattle.rules.proofs.steps.Editions.{Held, edition-is, held-sound, left, held-step}
 use Rattle.cases.specs.Cases.{formatting, reached}
 use Rattle.cases.specs.Morning.{answersTo}
+use Rattle.cases.specs.Contexts.{contextsTo}
 
 never : {A : Type 0} {e : ℕ} → _≡_ {A = Option ℕ} (some e) none → A
 never h = let z : _≡_ {A = ℕ} 0 1 = cc in absurd (omega arith)
@@ -48,6 +49,9 @@ damaged-first b m (enter c) h = refl
 damaged-first b m leave h = refl
 damaged-first b m (load a) h = refl
 damaged-first b m (store a x) h = refl
+damaged-first b m (notify t e f r) h = refl
+damaged-first b m (dispatch t) h = refl
+damaged-first b m (resume t s) h = refl
 
 -- ---- the calls without the first test
 
@@ -67,6 +71,10 @@ module _ (b : ℕ) where
   answersLater m [] = []
   answersLater m (c ∷ cs) = reply (later m c) (C.result b m c) ∷ answersLater (afterLater m c) cs
 
+  unfoldable pub contextsLater : List ℕ → List Call → List (List ℕ)
+  contextsLater m [] = []
+  contextsLater m (c ∷ cs) = C.resumed b m (later m c) (resumption c) ∷ contextsLater (afterLater m c) cs
+
 module _ {e : ℕ} {m : List ℕ} (h : Held e m) where
   not-damaged : damaged (widthOf e) m ≡ false
   not-damaged = ap not (sound? (widthOf e) m (omega (arith, words-least (widthOf e) (wide-of e (h .known)))) .1 (held-sound h))
@@ -85,6 +93,12 @@ module _ {e : ℕ} {m : List ℕ} (h : Held e m) where
     answer-is =
         ap (λ (x : ℕ). C.answer (widthOf x) m c) (edition-is e m h)
         ∙ ap (λ (r : ℕ). reply r (C.result (widthOf e) m c)) refusal-is
+
+    context-is : context m c ≡ C.resumed (widthOf e) m (later (widthOf e) m c) (resumption c)
+    unfolding context C.context
+    context-is =
+        ap (λ (x : ℕ). C.context (widthOf x) m c) (edition-is e m h)
+        ∙ ap (λ (r : ℕ). C.resumed (widthOf e) m r (resumption c)) refusal-is
 
     held-after : Held e (afterLater (widthOf e) m c)
     unfolding nextEdition
@@ -121,6 +135,13 @@ answers-later e m h (c ∷ cs) (n, ns) =
     ap₂ (λ (a : Answer) (x : List Answer). a ∷ x) (answer-is h c n)
     (ap (λ (x : List ℕ). answers x cs) (after-is h c n) ∙ answers-later e (afterLater (widthOf e) m c) (held-after h c n) cs ns)
 
+contexts-later : (e : ℕ) (m : List ℕ) → Held e m → (cs : List Call) → NoFormat cs → contexts m cs ≡ contextsLater (widthOf e) m cs
+unfolding contexts contextsLater
+contexts-later e m h [] q = refl
+contexts-later e m h (c ∷ cs) (n, ns) =
+    ap₂ (λ (a : List ℕ) (x : List (List ℕ)). a ∷ x) (context-is h c n)
+    (ap (λ (x : List ℕ). contexts x cs) (after-is h c n) ∙ contexts-later e (afterLater (widthOf e) m c) (held-after h c n) cs ns)
+
 -- ---- from format
 
 -- n is a number of pages of edition e, and none of the calls is a format
@@ -153,6 +174,13 @@ pub answersTo-is : (e n : ℕ) (o : Option (List Call)) → answersTo e n o ≡ 
 unfolding answersTo answersToLater
 answersTo-is e n none = refl
 answersTo-is e n (some cs) = either-way (usual e n cs) (λ q. let (h, r) = usual-held e n cs q in answers-later e (format (widthOf e) n) h cs r)
+
+unfoldable pub contextsToLater : ℕ → ℕ → List Call → List (List ℕ)
+contextsToLater e n cs = cond (usual e n cs) (contextsLater (widthOf e) (format (widthOf e) n) cs) (contextsTo e n cs)
+
+pub contextsTo-is : (e n : ℕ) (cs : List Call) → contextsTo e n cs ≡ contextsToLater e n cs
+unfolding contextsTo contextsToLater
+contextsTo-is e n cs = either-way (usual e n cs) (λ q. let (h, r) = usual-held e n cs q in contexts-later e (format (widthOf e) n) h cs r)
 
 -- ---- format itself: it reads the length alone, so that the words need not be counted
 

@@ -15,7 +15,7 @@ use Rattle.rules.proofs.Lengths.{length-after}
 use Rattle.rules.proofs.steps.Editions.{edition-is, held-sound, format-leaves, held-format, last-same}
 use Rattle.claim.specs.Kept.{Kept}
 use Rattle.claim.specs.Claim.{Claim}
-use Rattle.claim.proofs.Formatted.{run-formatted, answers-formatted}
+use Rattle.claim.proofs.Formatted.{run-formatted, answers-formatted, contexts-formatted}
 use Rattle.claim.proofs.FromSound.{from-sound}
 
 module _ (e : ℕ) (m : List ℕ) (f : Fits e m) where
@@ -43,6 +43,7 @@ module _ (e : ℕ) (m : List ℕ) (f : Fits e m) where
         record {
           words = r;
           answered = answers-formatted e m f cs;
+          resumed = contexts-formatted e m f cs;
           edition = rw r (k .edition ∙ last);
           kept = rw r (subst (λ (x : ℕ). Kept (widthOf x) (run start cs) (pagesIn (widthOf x) m)) last
               (subst (λ (n : ℕ). let b = widthOf (lastEdition start (edition start) cs) in Kept b (run start cs) (n / pageWords b)) same-length (k .kept)));

@@ -8,9 +8,10 @@ use Rattle.memory.specs.Geometry.{widthOf}
 use Rattle.memory.specs.Format.{format}
 use Rattle.rules.specs.Refusal.{number, DAMAGED, SIZE}
 use Rattle.rules.specs.Row.{Answer, ok, no}
-use Rattle.rules.specs.Call.{Call, formatAll, choice}
+use Rattle.rules.specs.Call.{Call, formatAll, choice, resumption}
 use Rattle.rules.specs.Conditions.{pagesIn}
-use Rattle.rules.specs.Editions.{answer, after, run, answers, lastEdition}
+use Rattle.rules.specs.Calls.{noContext}
+use Rattle.rules.specs.Editions.{answer, after, run, answers, contexts, lastEdition}
 use Rattle.rules.specs.Permitted.{Fits}
 use Rattle.claim.specs.Kept.{Kept}
 
@@ -23,12 +24,23 @@ unfoldable pub allRefused : List Call → List Answer
 allRefused [] = []
 allRefused (c ∷ cs) = no (refusedBy (choice c)) ∷ allRefused cs
 
+-- and beside (document 02, L8): a resume eleven zeros
+abbrev pub refusedBeside : Option (ℕ × ℕ) → List ℕ
+refusedBeside none = []
+refusedBeside (some x) = noContext
+
+unfoldable pub noneResumed : List Call → List (List ℕ)
+noneResumed [] = []
+noneResumed (c ∷ cs) = refusedBeside (resumption c) ∷ noneResumed cs
+
 -- format for edition e and then the calls cs, on memory of a permitted length whatever it held: answers and words are "worked out from the memory's
 -- length and the calls' arguments alone", and what demand 3 asks holds afterwards
 module _ (e : ℕ) (m : List ℕ) (cs : List Call) where
   pub record Claim : Type 0 where
     pub words : run m (formatAll e ∷ cs) ≡ run (format (widthOf e) (pagesIn (widthOf e) m)) cs
     pub answered : answers m (formatAll e ∷ cs) ≡ ok 0 ∷ answers (format (widthOf e) (pagesIn (widthOf e) m)) cs
+    -- the words that a resume answers
+    pub resumed : contexts m (formatAll e ∷ cs) ≡ [] ∷ contexts (format (widthOf e) (pagesIn (widthOf e) m)) cs
     -- the next call reads the memory as of the edition of the last format that passed
     pub edition : Edition.edition (run m (formatAll e ∷ cs)) ≡ lastEdition m e cs
     pub kept : Kept (widthOf (lastEdition m e cs)) (run m (formatAll e ∷ cs)) (pagesIn (widthOf (lastEdition m e cs)) m)
@@ -42,6 +54,7 @@ pub record Refused (e : ℕ) (m : List ℕ) : Type 0 where
 pub record Barred (m : List ℕ) (cs : List Call) : Type 0 where
   pub words : run m cs ≡ m
   pub answered : answers m cs ≡ allRefused cs
+  pub resumed : contexts m cs ≡ noneResumed cs
 
 -- of every memory and every list of calls, format among them: the part before any call of a list is a list itself, so this holds at the start and
 -- after each call

@@ -11,7 +11,7 @@ use Rattle.memory.specs.Words.{index}
 use Rattle.memory.specs.Edition.{width}
 use Rattle.memory.specs.Partition.{tableAt, tableWord}
 use Rattle.rules.specs.Call.{Call, formatAll, createPartition, deletePartition, addVAddr, removeVAddr, pageCount}
-use Rattle.rules.specs.Call.{prepare, collect, mappedInChild, enter, leave, load, store}
+use Rattle.rules.specs.Call.{prepare, collect, mappedInChild, enter, leave, load, store, notify, dispatch, resume}
 use Rattle.rules.specs.Conditions.{child, noThree}
 use Rattle.rules.specs.Calls as C
 use Rattle.rules.specs.Calls.{result}
@@ -48,6 +48,9 @@ module _ (b k : ℕ) (m : List ℕ) (room : 3 < k) (small : (i : ℕ) → getD m
   result-below leave = none
   result-below (load a) = small _
   result-below (store a x) = none
+  result-below (notify t e f r) = none
+  result-below (dispatch t) = none
+  result-below (resume t s) = none
 
 module _ (m : List ℕ) (words : (i : ℕ) → getD m i 0 < 2 ^ 32) (c : Call) where
   pub upper-half : packed (answer m c) / 2 ^ 32 ≡ refusal (width m) m c

@@ -7,6 +7,7 @@ use crate::own::look_up;
 use crate::pairs::pairs_form;
 use crate::words::zero_from;
 use pages::PhysicalPage;
+use pages::most_flag;
 use pages::read_word;
 ghost use mathlib.Core.Path.{_≡_};
 ghost use mathlib.Core.Bool.{_&&_};
@@ -16,7 +17,8 @@ ghost use Rattle.soundness.specs.Test.{descriptorTest, directoryTest, listTest,
 ghost use Rattle.forms.specs.Named.{Named};
 ghost use Rattle.pages.specs.Width.{Width};
 
-// "twelve words, pairs of virtual address in the parent and physical address ..; then 0 and the parent's descriptor address. The rest 0."
+// "twelve words, pairs of virtual address in the parent and physical address ..; then 0 and the parent's descriptor address. The rest 0." Word 12
+// is the live flag.
 pub fn descriptor_test(b: u32, m: &[u32], d: PhysicalPage) -> bool
     requires { ⌜ Width b ⌝ }
     ensures { λ r. ⌜ r ≡ descriptorTest b (now (m .entry)) (d .0) ⌝ }
@@ -30,7 +32,10 @@ pub fn descriptor_test(b: u32, m: &[u32], d: PhysicalPage) -> bool
     if !physical_address(b, m, read_word(b, m, d, 11)) {
         return false;
     }
-    zero_from(b, m, d, 12)
+    if most_flag(b) < read_word(b, m, d, 12) {
+        return false;
+    }
+    zero_from(b, m, d, 13)
 }
 
 // "word 0 first free word index, 1+6n with n threes; then pairs ..; word 63 next page, here always 0. Unused words 0." and "at most 10 threes". That is

@@ -9,6 +9,7 @@ use pages::pages;
 use pages::read_word;
 use pages::threes_for;
 ghost use mathlib.Core.Path.{_≡_};
+ghost use mathlib.Core.Bool.{_&&_, _||_};
 ghost use Rattle.walk.specs.Finite.{from, all};
 ghost use Prim.Native.Nat.{_+_, _<_, min};
 ghost use lib.Dec.{eqb};
@@ -25,18 +26,19 @@ fn least(x: u32, y: u32) -> u32
     if x <= y { x } else { y }
 }
 
+// Word 12, the live flag, is left out.
 fn root_descriptor(b: u32, m: &[u32]) -> bool
     requires { ⌜ Width b ⌝ }
-    ensures { λ r. ⌜ r ≡ all (λ i. eqb (word b (now (m .entry)) 1 i) (rootDescriptorWord b i)) (from (pageWords b) 0) ⌝ }
+    ensures { λ r. ⌜ r ≡ all (λ i. eqb i 12 || eqb (word b (now (m .entry)) 1 i) (rootDescriptorWord b i)) (from (pageWords b) 0) ⌝ }
 {
     let mut i: u32 = 0;
-    while i < 10 {
+    while i < 12 {
         if read_word(b, m, PhysicalPage(1), i) != root_descriptor_word(b, i) {
             return false;
         }
         i += 1;
     }
-    zero_from(b, m, PhysicalPage(1), 10)
+    zero_from(b, m, PhysicalPage(1), 13)
 }
 
 // k is 0 for the directory, 1 and 2 for the shadows; t is the number of threes that format makes of n pages.
@@ -78,7 +80,12 @@ pub fn root_pages(b: u32, m: &[u32]) -> bool
     ensures { λ r.
         ⌜
         r
-        ≡ all (λ p. all (λ i. eqb (word b (now (m .entry)) (1 + p) i) (formatWord b (Partition.pages b (now (m .entry))) (1 + p) i)) (from (pageWords b) 0)) (from 5 0)
+        ≡ all
+        (λ p.
+        all
+        (λ i. (eqb p 0 && eqb i 12) || eqb (word b (now (m .entry)) (1 + p) i) (formatWord b (Partition.pages b (now (m .entry))) (1 + p) i))
+        (from (pageWords b) 0))
+        (from 5 0)
         ⌝ }
 {
     let n = pages(b, m);

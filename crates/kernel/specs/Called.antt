@@ -9,8 +9,8 @@ use Rattle.rules.specs.Row.{Answer}
 use Rattle.rules.specs.Call.{Call}
 use Rattle.rules.specs.Editions.{answer, after}
 use Rattle.answers.specs.Said.{said}
-use Rattle.kernel.specs.declared.dispatch.Called.{Called}
-use Rattle.kernel.specs.declared.dispatch.Called.the-variants.{Answered, Unknown}
+use Rattle.kernel.specs.declared.numbers.Called.{Called}
+use Rattle.kernel.specs.declared.numbers.Called.the-variants.{Answered, Unknown}
 use Rattle.kernel.specs.Sequence.{numbered}
 
 -- what an answer of the code stands for: a call's answer, or none where no call has the number
@@ -23,7 +23,7 @@ module _ (m : List ℕ) (n : ℕ) (a : List ℕ) where
   abbrev pub calledBy : Call
   calledBy = numbered n (λ j. getD a j 0)
 
-  -- numbers 0 to 12 are calls
+  -- numbers 0 to 12 are known: format and document 01's calls
   abbrev pub calledAnswer : Option Answer
   calledAnswer = cond (leb n 12) (some (answer m calledBy)) none
 

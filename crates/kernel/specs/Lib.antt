@@ -1,4 +1,5 @@
 pub mod Sequence
 pub mod Called
+pub mod Room
 pub mod Ran
 pub mod Verdict

@@ -1,11 +1,13 @@
-// The open calls, by document 01's numbers. Each but format judges the memory first, and is then the call of that name at the width of the edition that
-// the header names.
+// The open calls: document 01's by its numbers, then document 02's. Each but format judges the memory first, and is then the call of that name at the
+// width of the edition that the header names.
 use answers::Answer;
+use contexts::Resumed;
 ghost use mathlib.Core.Path.{_≡_};
 ghost use Rattle.rules.specs.Call;
-ghost use Rattle.rules.specs.Editions.{answer, after};
+ghost use Rattle.rules.specs.Editions.{answer, after, context};
 ghost use Rattle.answers.specs.Said.{said};
 ghost use Rattle.making.specs.Group.{creating};
+ghost use Rattle.contexts.specs.Registers.{notifying};
 
 // Format for an edition, 0 or 1. Its number in a sequence is 0, and it asks nothing of the words.
 pub fn format(m: &mut [u32], edition: u32) -> Answer
@@ -126,4 +128,37 @@ pub fn store(m: &mut [u32], address: u32, word: u32) -> Answer
     let b = pages::width(m);
     let good = judge::is_sound(m);
     access::store(b, m, good, address, word)
+}
+
+// "Notify is given eip, eflags and registers and saves them". The target is a child, or the parent under address 0.
+pub fn notify(m: &mut [u32], target: u32, eip: u32, eflags: u32, registers: [u32; 8]) -> Answer
+    ensures { λ r. ⌜ (said r ≡ answer (now (m .entry)) (notifying target eip eflags registers))
+        × (now (m .exit) ≡ after (now (m .entry)) (notifying target eip eflags registers)) ⌝ }
+{
+    let b = pages::width(m);
+    let good = judge::is_sound(m);
+    contexts::notify(b, m, good, target, eip, eflags, registers)
+}
+
+// "Dispatch saves nothing."
+pub fn dispatch(m: &mut [u32], target: u32) -> Answer
+    ensures { λ r. ⌜ (said r ≡ answer (now (m .entry)) (Call.dispatch target)) × (now (m .exit) ≡ after (now (m .entry)) (Call.dispatch target)) ⌝ }
+{
+    let b = pages::width(m);
+    let good = judge::is_sound(m);
+    contexts::dispatch(b, m, good, target)
+}
+
+// "Resume answers the saved words": they stand beside the answer, zeros where it is refused.
+pub fn resume(m: &mut [u32], target: u32, slot: u32) -> Resumed
+    ensures { λ r.
+        ⌜
+        (said (r .answer) ≡ answer (now (m .entry)) (Call.resume target slot))
+        × (r .words ≡ context (now (m .entry)) (Call.resume target slot))
+        × (now (m .exit) ≡ after (now (m .entry)) (Call.resume target slot))
+        ⌝ }
+{
+    let b = pages::width(m);
+    let good = judge::is_sound(m);
+    contexts::resume(b, m, good, target, slot)
 }

@@ -17,6 +17,10 @@ module _ (b : ℕ) where
   unfoldable pub editionOf : ℕ
   editionOf = cond (eqb b (widthOf 0)) 0 1
 
+  -- document 02, L8: "The live vcli flag is .. 0 or 1", and on the other edition "word 12 stays 0": the most that it can be
+  abbrev pub mostFlag : ℕ
+  mostFlag = 1 - editionOf
+
   -- "A page is 64 words (256 bytes)."; L4: "4,096-byte pages of 1,024 words", and "Wherever 01 writes 256 or 64 for a page, the edition's size stands instead"
   abbrev pub pageWords : ℕ
   pageWords = 2 ^ b

@@ -4,6 +4,7 @@ pub mod Edition
 pub mod Entry
 pub mod Format
 pub mod Partition
+pub mod Contexts
 pub mod Tree
 pub mod Uses
 pub mod Sound

@@ -33,6 +33,13 @@ module _ (b : ℕ) where
   abbrev pub parent : List ℕ → ℕ → ℕ
   parent m d = pageOf b (word b m d 11)
 
+  -- document 02, L8: "The live vcli flag is word 12 of the descriptor"
+  abbrev pub flag : List ℕ → ℕ → ℕ
+  flag m d = word b m d 12
+
+  abbrev pub setFlag : List ℕ → ℕ → ℕ → List ℕ
+  setFlag m d x = put b m d 12 x
+
   -- "word 0 first free word index, 1+6n with n threes"
   abbrev pub threes : List ℕ → ℕ → ℕ
   threes m d = (word b m (list m d) 0 - 1) / 6

@@ -7,13 +7,17 @@ use mathlib.Core.Logic.{_≢_, _⊎_}
 use Prim.Native.Nat.{ℕ, _+_, _*_, _≤_, _<_}
 use lib.ListN.{length}
 use Rattle.walk.specs.Finite.{One}
-use Rattle.memory.specs.Geometry.{editionOf, pageWords, address, pageOf, threesFor, flatPages, leastPages, mostPages, mostThrees, mostDepth}
+use Rattle.memory.specs.Geometry.{editionOf, mostFlag, pageWords, address, pageOf, threesFor, flatPages, leastPages, mostPages, mostThrees, mostDepth}
 use Rattle.memory.specs.Words.{word}
 use Rattle.memory.specs.Entry.{entry, accessible, rights, writeRight, executeRight, allRights, holds}
 use Rattle.memory.specs.Format.{formatWord}
 use Rattle.memory.specs.Partition.{pages, current, directory, shadow1, shadow2, list, threes, mapping, lent, above}
 use Rattle.memory.specs.Tree.{Virtual, Physical, Has, Child, InTree}
 use Rattle.memory.specs.Uses.{Use}
+
+-- word i of the root's page 1 + p is its live flag
+abbrev pub RootFlag : ℕ → ℕ → Type 0
+RootFlag p i = (p ≡ 0) × (i ≡ 12)
 
 module _ (b : ℕ) (m : List ℕ) where
   -- ---- 1. "Header and length as above; the words have the forms above."
@@ -30,11 +34,13 @@ module _ (b : ℕ) (m : List ℕ) where
     pub rest : (i : ℕ) → i < pageWords b → 6 ≤ i → word b m 0 i ≡ 0
 
   -- "twelve words, pairs of virtual address in the parent and physical address ..; then 0 and the parent's descriptor address. The rest 0."
+  -- Document 02, L8: "The live vcli flag is word 12 of the descriptor, 0 or 1"; on the other edition "word 12 stays 0"
   pub record DescriptorForm (d : ℕ) : Type 0 where
     pub pairs : (j : ℕ) → j < 5 → Virtual b (word b m d (2 * j)) × Physical b m (word b m d (2 * j + 1))
     pub zero : word b m d 10 ≡ 0
     pub parent : Physical b m (word b m d 11)
-    pub rest : (i : ℕ) → i < pageWords b → 12 ≤ i → word b m d i ≡ 0
+    pub flag : word b m d 12 ≤ mostFlag b
+    pub rest : (i : ℕ) → i < pageWords b → 13 ≤ i → word b m d i ≡ 0
 
   -- "word i is 0 or a table's physical address + 1"
   abbrev pub TableLink : ℕ → Type 0
@@ -73,10 +79,10 @@ module _ (b : ℕ) (m : List ℕ) where
     pub none : mapping b m d 0 ≡ 0
 
   -- ---- 2. "Root's descriptor, directory, shadow roots and list are as format leaves them; it maps exactly the flat pages, with all rights and
-  -- shadow 2 words 0."
+  -- shadow 2 words 0." Document 02, L8: the live flag is left out.
 
   pub record Root : Type 0 where
-    pub five : (p : ℕ) → p < 5 → (i : ℕ) → i < pageWords b → word b m (1 + p) i ≡ formatWord b (pages b m) (1 + p) i
+    pub five : (p : ℕ) → p < 5 → (i : ℕ) → i < pageWords b → ¬ RootFlag p i → word b m (1 + p) i ≡ formatWord b (pages b m) (1 + p) i
     pub maps : (v : ℕ) → Has b m 1 v → (1 ≤ pageOf b v) × (pageOf b v ≤ flatPages b (pages b m))
         → (pageOf b (mapping b m 1 v) ≡ 5 + 3 * threesFor b (pages b m) + pageOf b v) × (rights (mapping b m 1 v) ≡ allRights)
     pub only : (v : ℕ) → Has b m 1 v → ¬ ((1 ≤ pageOf b v) × (pageOf b v ≤ flatPages b (pages b m))) → mapping b m 1 v ≡ 0

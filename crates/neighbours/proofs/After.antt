@@ -15,6 +15,7 @@ use Rattle.memory.specs.Sound.{Sound}
 use Rattle.soundness.proofs.Whole.{flat, part-inside}
 use Rattle.rules.proofs.model.Words.{W, word, idx, pageOf, pageOf-zero, twelve-lt, sixty-one}
 use Rattle.rules.proofs.model.Abs.{pt, s1, s2, lst}
+use Rattle.rules.proofs.model.Facts.{differ}
 use Rattle.rules.proofs.model.Read.{rootPage, tableAt, entryAt}
 use Rattle.rules.proofs.model.Inv.{Inv, cur-is}
 use Rattle.rules.proofs.sound.Words.{virtual-fits, list-is}
@@ -22,7 +23,7 @@ use Rattle.rules.proofs.sound.Tree.{in-tree-is}
 use Rattle.rules.proofs.state.Represented.{sound-inv}
 use Rattle.claim.specs.Kept.{Maps}
 use Rattle.neighbours.specs.Neighbours.{Within, itself, Shown, kernel, mapped}
-use Rattle.neighbours.proofs.Levels.{deep, here, Fixed, Low, Kept, owner-deep, part-kept, root-kept, table-kept, lent-kept}
+use Rattle.neighbours.proofs.Levels.{deep, here, Fixed, Low, Steady, Kept, owner-deep, steady, part-kept, root-kept, table-kept, lent-kept}
 use Rattle.neighbours.proofs.Twin.{Twin, inv₁, inv₂, within-deep, shown-split, within-to}
 use Rattle.neighbours.proofs.Near.{Near}
 
@@ -80,7 +81,7 @@ module _ {b : ℕ} (wide : 6 ≤ b) {m : List ℕ} (s : Sound b m) {m₁ : List 
   i = sound-inv wide m s
 
   -- the partitions that are not deeper than the caller are still there
-  tree-kept : {k e : ℕ} → InTree b m k e → k ≤ here i → InTree b m₁ k e
+  pub tree-kept : {k e : ℕ} → InTree b m k e → k ≤ here i → InTree b m₁ k e
   unfolding tableAt entryAt rootPage pageOf
   tree-kept root l = root
   tree-kept (child {k = k} {d = d} {v = v} {c = c} u a) l =
@@ -99,7 +100,7 @@ module _ {b : ℕ} (wide : 6 ≤ b) {m : List ℕ} (s : Sound b m) {m₁ : List 
   module _ {B : ℕ} (low : Low i B) where
     list-kept : list b m₁ B ≡ list b m B
     unfolding word
-    list-kept = ap (Geometry.pageOf b) (part-kept wide i (kept .unchanged) low 9 (twelve-lt wide 9 (omega arith)))
+    list-kept = ap (Geometry.pageOf b) (part-kept wide i (kept .unchanged) low 9 (twelve-lt wide 9 (omega arith)) (λ y. omega arith))
 
     list-words : (x : ℕ) → x < W b → Mem.word b m₁ (list b m₁ B) x ≡ Mem.word b m (list b m B) x
     unfolding word
@@ -109,7 +110,8 @@ module _ {b : ℕ} (wide : 6 ≤ b) {m : List ℕ} (s : Sound b m) {m₁ : List 
         let r : i .state .role l ≡ lst B = i .wf .lst-role B (low .live) in
         let d : deep i l ≡ deep i B = owner-deep i l B (rw r refl) in
         let z = subst (Fixed (deep i l) (here i)) (sym r) (omega (arith, low .small)) in
-        ap (λ (p : ℕ). word b m₁ p x) (list-kept ∙ q) ∙ kept .unchanged .stays l x h z ∙ ap (λ (p : ℕ). word b m p x) (sym q)
+        let y : Steady i l x = steady i l x r (λ y. differ y (omega arith)) in
+        ap (λ (p : ℕ). word b m₁ p x) (list-kept ∙ q) ∙ kept .unchanged .stays l x h z y ∙ ap (λ (p : ℕ). word b m p x) (sym q)
 
     threes-kept : threes b m₁ B ≡ threes b m B
     threes-kept = ap (λ (x : ℕ). (x - 1) / 6) (list-words 0 (twelve-lt wide 0 (omega arith)))

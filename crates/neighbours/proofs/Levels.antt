@@ -1,6 +1,6 @@
 -- One memory while a call is made: which pages the call may write, by how deep a page is mapped, and which words stay. Words of the descriptors,
--- directories, shadows, lists and shadow 2 tables of the caller and of the partitions above it stay, and the pages that they map; so what B sees after a
--- call does not depend on what the partitions above B hold. Assumes an index width of 6 or more.
+-- directories, shadows, lists and shadow 2 tables of the caller and of the partitions above it stay, but for their live flags, and the pages that they map;
+-- so what B sees after a call does not depend on what the partitions above B hold. Assumes an index width of 6 or more.
 use mathlib.Core.Path.{_≡_, refl, sym, ap, ap₂, _∙_, subst}
 use mathlib.Core.List.{List}
 use mathlib.Core.Logic.{_≢_}
@@ -56,6 +56,12 @@ slot-lt wide pt = twelve-lt wide 3 (omega arith)
 slot-lt wide s1 = twelve-lt wide 5 (omega arith)
 slot-lt wide s2 = twelve-lt wide 7 (omega arith)
 
+slot-steady : (k : Kind) → slot k ≢ 12
+unfolding slot
+slot-steady pt e = omega arith
+slot-steady s1 e = omega arith
+slot-steady s2 e = omega arith
+
 -- ---- pages by how deep they are mapped
 
 module _ {b : ℕ} {m : List ℕ} (i : Inv b m) where
@@ -109,9 +115,17 @@ module _ {b : ℕ} {m : List ℕ} (i : Inv b m) where
 
   -- ---- what stays while a call is made
 
-  -- the pages that a call does not write are as in m
+  -- any word of a page but a live flag
+  abbrev pub Steady : ℕ → ℕ → Type 0
+  Steady q j = A .role q ≡ desc → j ≢ 12
+
+  -- every word of a page that is no descriptor
+  pub steady : {r : Role} (q j : ℕ) → A .role q ≡ r → r ≢ desc → Steady q j
+  steady q j e n y = absurd (n (sym e ∙ y))
+
+  -- the pages that a call does not write are as in m, but for live flags
   pub record Unchanged (m₁ : List ℕ) : Type 0 where
-    pub stays : (q j : ℕ) → j < W b → Unwritten q → word b m₁ q j ≡ word b m q j
+    pub stays : (q j : ℕ) → j < W b → Unwritten q → Steady q j → word b m₁ q j ≡ word b m q j
 
   -- the partitions that are not deeper than the caller map the same pages
   pub record Kept (m₁ : List ℕ) : Type 0 where
@@ -120,7 +134,7 @@ module _ {b : ℕ} {m : List ℕ} (i : Inv b m) where
     pub pages : (e v : ℕ) → Low e → idx b v < W b → pageOf b (entryAt b m₁ pt e v) ≡ pageOf b (entryAt b m pt e v)
 
   pub kept-same : Kept m
-  kept-same = record { sized = i .words .sized; unchanged = record { stays = λ q j l z. refl }; pages = λ e v l h. refl }
+  kept-same = record { sized = i .words .sized; unchanged = record { stays = λ q j l z y. refl }; pages = λ e v l h. refl }
 
 -- ---- lookups
 
@@ -137,11 +151,11 @@ module _ {b : ℕ} (wide : 6 ≤ b) {m : List ℕ} (i : Inv b m) where
   -- ---- in a memory in which the pages that the call does not write are as in m
 
   module _ {m₁ : List ℕ} (k : Unchanged i m₁) {e : ℕ} (l : Low i e) where
-    pub part-kept : (j : ℕ) → j < W b → word b m₁ e j ≡ word b m e j
-    part-kept j h = k .stays e j h (subst (Fixed (deep i e) (here i)) (sym (l .live)) (l .small))
+    pub part-kept : (j : ℕ) → j < W b → j ≢ 12 → word b m₁ e j ≡ word b m e j
+    part-kept j h n = k .stays e j h (subst (Fixed (deep i e) (here i)) (sym (l .live)) (l .small)) (λ y. n)
 
     pub root-kept : (x : Kind) → rootPage b m₁ x e ≡ rootPage b m x e
-    root-kept x = root-slot b m₁ x e ∙ ap (pageOf b) (part-kept (slot x) (slot-lt wide x)) ∙ sym (root-slot b m x e)
+    root-kept x = root-slot b m₁ x e ∙ ap (pageOf b) (part-kept (slot x) (slot-lt wide x) (slot-steady x)) ∙ sym (root-slot b m x e)
 
     -- at virtual page v
     module _ (x : Kind) (v : ℕ) (h : idx b v < W b) where
@@ -151,8 +165,10 @@ module _ {b : ℕ} (wide : 6 ≤ b) {m : List ℕ} (i : Inv b m) where
           let q : ℕ = A .rootp x e in
           let r : rootPage b m x e ≡ q = root-page wide N fl A (i .wf) (fixed b N) m (cell b A) (i .words) x e (l .live) in
           let shallow : deep i q ≤ here i = omega (arith, root-deep i x e (l .live), l .small) in
-          let z : Unwritten i q = subst (Fixed (deep i q) (here i)) (sym (i .wf .root-role x e (l .live))) shallow in
-          ap (λ (p : ℕ). word b m₁ p (idx b v)) (root-kept x ∙ r) ∙ k .stays q (idx b v) h z ∙ ap (λ (p : ℕ). word b m p (idx b v)) (sym r)
+          let o : A .role q ≡ Abs.root x e = i .wf .root-role x e (l .live) in
+          let z : Unwritten i q = subst (Fixed (deep i q) (here i)) (sym o) shallow in
+          let y : Steady i q (idx b v) = steady i q (idx b v) o (λ y. differ y (omega arith)) in
+          ap (λ (p : ℕ). word b m₁ p (idx b v)) (root-kept x ∙ r) ∙ k .stays q (idx b v) h z y ∙ ap (λ (p : ℕ). word b m p (idx b v)) (sym r)
 
       pub entry-at : tableAt b m x e v ≢ 0 → entryAt b m₁ x e v ≡ word b m₁ (tablePage b m x e v) (off b v)
       unfolding tablePage
@@ -180,7 +196,8 @@ module _ {b : ℕ} (wide : 6 ≤ b) {m : List ℕ} (i : Inv b m) where
           go (yes n) = entry-none n ∙ sym (entry-absent b m x e v n)
           go (no n) =
               let q : ℕ = tablePage b m x e v in
-              entry-at n ∙ k .stays q (off b v) (off-lt wide v) (z q (table-role x e v (l .live) h n)) ∙ sym (entry-there b m x e v n)
+              let r = table-role x e v (l .live) h n in
+              entry-at n ∙ k .stays q (off b v) (off-lt wide v) (z q r) (steady i q (off b v) r (λ y. differ y (omega arith))) ∙ sym (entry-there b m x e v n)
 
     module _ (v : ℕ) (h : idx b v < W b) where
       pub above-kept : entryAt b m₁ s2 e v ≡ entryAt b m s2 e v
@@ -212,7 +229,7 @@ module _ {b : ℕ} (wide : 6 ≤ b) {m : List ℕ} (i : Inv b m) where
   kept-page {m₁} {m₂} k z {q} o f = kept-on k z unchanged same
     where
       unchanged : Unchanged i m₂
-      unchanged = record { stays = λ p j l x. f p j l (λ e. writable-apart i o (subst (Unwritten i) e x)) ∙ k .unchanged .stays p j l x }
+      unchanged = record { stays = λ p j l x y. f p j l (λ e. writable-apart i o (subst (Unwritten i) e x)) ∙ k .unchanged .stays p j l x y }
 
       same : SamePages m₁ m₂
       same e v l h n =
@@ -250,7 +267,7 @@ module _ {b : ℕ} (wide : 6 ≤ b) {m : List ℕ} (i : Inv b m) where
           apart p z y = subst (Fixed (deep i p) (here i)) (ap (A .role) y ∙ r) z
 
           unchanged : Unchanged i m₂
-          unchanged = record { stays = λ p j g z. other p j g (λ y. apart p z (y .0)) ∙ k .unchanged .stays p j g z }
+          unchanged = record { stays = λ p j g z s. other p j g (λ y. apart p z (y .0)) ∙ k .unchanged .stays p j g z s }
 
           word-of : (p j : ℕ) → j < W b → pageOf b (word b m₂ p j) ≡ pageOf b (word b m₁ p j)
           word-of p j o = at (eqd p q) (eqd j (off b v))

@@ -2,12 +2,17 @@ pub mod Levels
 pub mod Pages
 pub mod Twin
 pub mod Walk
+pub mod Agree
 pub mod Near
 pub mod TakeReturn
 pub mod After
+pub mod Slots
 pub mod Lookups
 pub mod ChildPages
 pub mod StoreEnter
+pub mod Lives
+pub mod Switch
+pub mod Upward
 pub mod AddRemove
 pub mod CreateDelete
 pub mod Prepare

@@ -12,19 +12,19 @@ use lib.Seq.{ext-getD}
 use Rattle.walk.specs.Finite.{any}
 use Rattle.memory.specs.Geometry
 use Rattle.memory.specs.Words as Mem
-use Rattle.memory.specs.Partition.{current, parent, directory, shadow1, list, threes, tableWord, tableFor, mapping, lent, above}
+use Rattle.memory.specs.Partition.{current, parent, directory, shadow1, list, threes, tableFor, mapping, lent, above}
 use Rattle.memory.specs.Tree.{Virtual, Has, Child, InTree, root, child}
 use Rattle.memory.specs.Sound.{Sound}
-use Rattle.memory.proofs.Geometry.{directoryIndex-lt, page-address}
+use Rattle.memory.proofs.Geometry.{directoryIndex-lt}
 use Rattle.memory.proofs.Tables.{tableWord-absent}
 use Rattle.memory.proofs.Widths.{words-least}
 use Rattle.soundness.proofs.Root.{root-parent}
-use Rattle.soundness.proofs.Whole.{part-inside, mapped-has}
+use Rattle.soundness.proofs.Whole.{part-inside}
 use Rattle.rules.specs.Moves.{depth}
 use Rattle.rules.specs.Conditions.{damaged, badAddress, badPage}
 use Rattle.rules.specs.Conditions
 use Rattle.rules.specs.Reads.{SameTables, SameChild, SameRead}
-use Rattle.rules.proofs.model.Words.{W, word, idx, pageOf, addr}
+use Rattle.rules.proofs.model.Words.{W, word, idx, pageOf}
 use Rattle.rules.proofs.model.Abs.{Kind, pt}
 use Rattle.rules.proofs.model.Read.{rootPage, tableAt, tablePage}
 use Rattle.rules.proofs.model.Names.{PageAddress, good-page}
@@ -33,12 +33,13 @@ use Rattle.rules.proofs.sound.Words.{virtual-fits, virtual-addr}
 use Rattle.rules.proofs.sound.All.{inv-whole}
 use Rattle.rules.proofs.steps.Checks.{Each, false-or}
 use Rattle.rules.proofs.steps.CollectEffect.{page-size, page-word}
-use Rattle.rules.proofs.steps.Reading.{below-end}
+use Rattle.rules.proofs.steps.ReadRows.{below-end}
 use Rattle.rules.proofs.state.Tree.{room}
 use Rattle.rules.proofs.state.Tree as Tree
 use Rattle.rules.proofs.state.Represented.{sound-inv}
-use Rattle.neighbours.specs.Neighbours.{Within, below, Shown, mapped}
-use Rattle.neighbours.proofs.Twin.{Twin, inv₁, inv₂, within-both, maps-up, shown-fits, part-shown, list-shown, compared-same, forms₁, root-same}
+use Rattle.neighbours.specs.Neighbours.{Within, below, Shown}
+use Rattle.neighbours.proofs.Twin.{Twin, inv₁, inv₂, within-both, shown-fits, part-shown, list-shown, compared-same, forms₁, root-same}
+use Rattle.neighbours.proofs.Slots.{mapped-shown, same-slots}
 use Rattle.neighbours.proofs.Twin.{parent-same, list-same, list-words, threes-same, table-shown, tableFor-same, mapping-same, lent-same, above-same}
 
 -- ---- addresses that have passed
@@ -128,13 +129,7 @@ module _ {b B : ℕ} {m n : List ℕ} (t : Twin b B m n) where
 
     -- a page that it maps is seen
     cur-shown : mapping b m c v ≢ 0 → Shown b m B (Geometry.pageOf b (mapping b m c v))
-    unfolding addr pageOf
-    cur-shown z =
-        let u : ℕ = Geometry.address b (Geometry.pageOf b v) in
-        let e : mapping b m c u ≡ mapping b m c v = ap (tableWord b m (directory b m c)) (page-address b (Geometry.pageOf b v)) in
-        let y : mapping b m c u ≢ 0 = λ x. z (sym e ∙ x) in
-        let has = mapped-has b m c u (virtual-addr wide (pageOf b v) f) y in
-        mapped (maps-up wide B m sound₁ depth₁ inside (record { at = u; has = has; present = y; page = ap (Geometry.pageOf b) e }))
+    cur-shown z = mapped-shown t inside v f z
 
     cur-word : mapping b m c v ≢ 0 → (i : ℕ) → i < W b
         → word b m (Geometry.pageOf b (mapping b m c v)) i ≡ word b n (Geometry.pageOf b (mapping b n c′ v)) i
@@ -207,6 +202,7 @@ module _ {b B : ℕ} {m n : List ℕ} (t : Twin b B m n) where
     same-child : SameChild b m n k k′
     same-child = record {
       tables = same-tables child-within child-there;
+      slots = same-slots t child-within child-there;
       above = λ v l. child-above v (fits wide v l);
       threes = threes-same t child-within ∙ ap (threes b n) child-there;
       list = child-words;
@@ -220,6 +216,7 @@ module _ {b B : ℕ} {m n : List ℕ} (t : Twin b B m n) where
   same-read = record {
     damaged = whole wide sound₁ ∙ sym (whole wide sound₂);
     caller = same-tables inside same;
+    slots = same-slots t inside same;
     parent = cur-parent;
     depth = depth-same;
     page = λ v l z i h. cur-word v (fits wide v l) z i h;

@@ -2,11 +2,10 @@
 -- effect is a chain of such writes. Assumes an index width of 6 or more.
 use mathlib.Core.Path.{_≡_, sym, ap, _∙_, subst, subst₂}
 use mathlib.Core.List.{List}
-use mathlib.Core.Logic.{_≢_, inl, inr}
-use Prim.Native.Nat.{ℕ, _+_, _-_, _≤_, _<_}
+use mathlib.Core.Logic.{_≢_, inr}
+use Prim.Native.Nat.{ℕ, _+_, _≤_, _<_}
 use native.Mathlib.Omega.{arith}
-use native.Mathlib.Decide.{decLt}
-use lib.ListN.{length, getD}
+use lib.ListN.{length}
 use Rattle.memory.specs.Geometry
 use Rattle.memory.specs.Words as Mem
 use Rattle.memory.specs.Partition.{current, mapping, setLent}
@@ -14,17 +13,17 @@ use Rattle.memory.specs.Tree.{Virtual}
 use Rattle.rules.proofs.Marks.{marked}
 use Rattle.rules.proofs.Turns.{marking}
 use Rattle.rules.proofs.model.Base.{eqd}
-use Rattle.rules.proofs.model.Words.{W, word, put, putL, wipe, idx, off, pageOf, word-put-same, word-put-other, off-lt}
-use Rattle.rules.proofs.model.Words.{Sized, put-sized, putL-sized, putL-other, putL-before, putL-at, wipe-sized, wipe-other, wipe-same}
+use Rattle.rules.proofs.model.Words.{W, word, put, putL, wipe, idx, off, pageOf, off-lt, putL-other, wipe-other}
 use Rattle.rules.proofs.model.Abs.{Kind, pt, s1}
 use Rattle.rules.proofs.model.Read.{rootPage, tableAt, tablePage, entryAt, putAt}
-use Rattle.rules.proofs.model.Inv.{pages-is, cur-is}
+use Rattle.rules.proofs.model.Inv.{cur-is}
 use Rattle.rules.proofs.sound.Words.{virtual-fits}
 use Rattle.rules.proofs.steps.CollectEffect.{fill-is}
 use Rattle.neighbours.specs.Neighbours.{Within}
 use Rattle.neighbours.proofs.Levels.{deep, Writable, Low, Kept, kept-same, kept-page, entry-at, entry-none, put-at, put-none}
 use Rattle.neighbours.proofs.Pages.{writable-zero, writable-entry, writable-lent}
-use Rattle.neighbours.proofs.Twin.{Twin, inv₁, inv₂, Compared, compared-same, live₁, live₂, shown-fits, table-shown, table-same, entry-same}
+use Rattle.neighbours.proofs.Twin.{Twin, inv₁, inv₂, Compared, compared-same, live₁, live₂, table-shown, table-same, entry-same}
+use Rattle.neighbours.proofs.Agree.{Agree, put-other, agree-put, agree-putL, agree-wipe}
 use Rattle.neighbours.proofs.Walk.{mark-kept}
 
 -- a word y of d's table x, which is at the same page in m₁ and n₁ as in m: written in both, or in neither, where there is no table
@@ -34,7 +33,7 @@ data Written (b : ℕ) (m m₁ n₁ : List ℕ) (x : Kind) (d v y : ℕ) : Type 
       → putAt b n₁ x d v y ≡ put b n₁ (tablePage b m x d v) (off b v) y → Written b m m₁ n₁ x d v y
 
 module _ {b B : ℕ} {m n : List ℕ} (t : Twin b B m n) where
-  open Twin t using (wide, sound₁, sound₂, count, inside, depth₁)
+  open Twin t using (wide, sound₁, sound₂, inside)
 
   -- the caller
   abbrev c : ℕ
@@ -49,14 +48,7 @@ module _ {b B : ℕ} {m n : List ℕ} (t : Twin b B m n) where
   pub near-start : Near m n
   near-start = record { kept₁ = kept-same (inv₁ t); kept₂ = kept-same (inv₂ t); same = compared-same t }
 
-  -- ---- pages and partitions of both
-
-  compared-fits₁ : {p : ℕ} → Compared t p → p < inv₁ t .N
-  compared-fits₁ (inl e) = omega (arith, inv₁ t .least)
-  compared-fits₁ (inr x) = omega (arith, shown-fits wide B m sound₁ depth₁ x, pages-is wide m (inv₁ t))
-
-  compared-fits₂ : {p : ℕ} → Compared t p → p < inv₂ t .N
-  compared-fits₂ x = omega (arith, compared-fits₁ x, pages-is wide m (inv₁ t), pages-is wide n (inv₂ t), count)
+  -- ---- partitions of both
 
   cur₁ : inv₁ t .state .cur ≡ c
   cur₁ = sym (cur-is wide m (inv₁ t))
@@ -129,78 +121,29 @@ module _ {b B : ℕ} {m n : List ℕ} (t : Twin b B m n) where
             ∙ ap (λ (y : ℕ). word b n₁ (pageOf b y) (off b v)) e
             ∙ sym (entry-at wide (inv₂ t) (kept₂ .unchanged) (p .low₂) x v h (λ y. z (e ∙ y)))
 
-    -- ---- page q is written, and no other
+    -- ---- pages that the call may write in both
 
-    module _ (m₂ n₂ : List ℕ) (q : ℕ)
-        (other₁ : (p z : ℕ) → z < W b → p ≢ q → word b m₂ p z ≡ word b m₁ p z)
-        (other₂ : (p z : ℕ) → z < W b → p ≢ q → word b n₂ p z ≡ word b n₁ p z)
-        (on : Compared t q → (z : ℕ) → z < W b → word b m₂ q z ≡ word b n₂ q z) where
-      same-page : (p z : ℕ) → Compared t p → z < W b → word b m₂ p z ≡ word b n₂ p z
-      same-page p z s h = go (eqd p q)
-        where
-          go : Dec (p ≡ q) → word b m₂ p z ≡ word b n₂ p z
-          go (yes e) = ap (λ (x : ℕ). word b m₂ x z) e ∙ on (subst (Compared t) e s) z h ∙ ap (λ (x : ℕ). word b n₂ x z) (sym e)
-          go (no e) = other₁ p z h e ∙ same p z s h ∙ sym (other₂ p z h e)
+    agreed : Agree t m₁ n₁
+    agreed = record { sized₁ = kept₁ .sized; sized₂ = kept₂ .sized; same = same }
 
-      near-page : Both q → Sized b (inv₁ t .N) m₂ → Sized b (inv₂ t .N) n₂ → Near m₂ n₂
-      near-page o s₁ s₂ = record {
-        kept₁ = kept-page wide (inv₁ t) kept₁ s₁ (o .0) other₁;
-        kept₂ = kept-page wide (inv₂ t) kept₂ s₂ (o .1) other₂;
-        same = same-page;
-      }
+    -- page q is written, and no other
+    near-page : {m₂ n₂ : List ℕ} (q : ℕ) → Both q → Agree t m₂ n₂
+        → ((p z : ℕ) → z < W b → p ≢ q → word b m₂ p z ≡ word b m₁ p z) → ((p z : ℕ) → z < W b → p ≢ q → word b n₂ p z ≡ word b n₁ p z) → Near m₂ n₂
+    near-page q o a other₁ other₂ = record {
+      kept₁ = kept-page wide (inv₁ t) kept₁ (a .sized₁) (o .0) other₁;
+      kept₂ = kept-page wide (inv₂ t) kept₂ (a .sized₂) (o .1) other₂;
+      same = a .same;
+    }
 
-    -- ---- the word x at word y of page q
-
-    module _ (q y x : ℕ) (l : y < W b) where
-      put-other : (w : List ℕ) (p z : ℕ) → z < W b → p ≢ q → word b (put b w q y x) p z ≡ word b w p z
-      put-other w p z h e = word-put-other wide w q y x p z l h (λ r. e (r .0))
-
-      put-on : Compared t q → (z : ℕ) → z < W b → word b (put b m₁ q y x) q z ≡ word b (put b n₁ q y x) q z
-      put-on s z h = go (eqd z y)
-        where
-          go : Dec (z ≡ y) → word b (put b m₁ q y x) q z ≡ word b (put b n₁ q y x) q z
-          go (yes f) =
-              ap (word b (put b m₁ q y x) q) f ∙ word-put-same wide (inv₁ t .N) m₁ q y x (kept₁ .sized) (compared-fits₁ s) l
-              ∙ sym (ap (word b (put b n₁ q y x) q) f ∙ word-put-same wide (inv₂ t .N) n₁ q y x (kept₂ .sized) (compared-fits₂ s) l)
-          go (no f) =
-              word-put-other wide m₁ q y x q z l h (λ w. f (w .1)) ∙ same q z s h ∙ sym (word-put-other wide n₁ q y x q z l h (λ w. f (w .1)))
-
-      same-put : (p z : ℕ) → Compared t p → z < W b → word b (put b m₁ q y x) p z ≡ word b (put b n₁ q y x) p z
-      same-put = same-page (put b m₁ q y x) (put b n₁ q y x) q (put-other m₁) (put-other n₁) put-on
-
-      pub near-put : Both q → Near (put b m₁ q y x) (put b n₁ q y x)
-      near-put o =
-          near-page _ _ q (put-other m₁) (put-other n₁) put-on o
-          (put-sized wide (inv₁ t .N) m₁ q y x (kept₁ .sized)) (put-sized wide (inv₂ t .N) n₁ q y x (kept₂ .sized))
-
-    -- ---- page q is wiped
+    pub near-put : (q y x : ℕ) → y < W b → Both q → Near (put b m₁ q y x) (put b n₁ q y x)
+    near-put q y x l o = near-page q o (agree-put t agreed q y x l) (put-other wide q y x l m₁) (put-other wide q y x l n₁)
 
     pub near-wipe : (q : ℕ) → Both q → Near (wipe b m₁ q) (wipe b n₁ q)
-    near-wipe q o =
-        near-page _ _ q (wipe-other wide m₁ q) (wipe-other wide n₁ q) on o
-        (wipe-sized wide (inv₁ t .N) m₁ q (kept₁ .sized)) (wipe-sized wide (inv₂ t .N) n₁ q (kept₂ .sized))
-      where
-        on : Compared t q → (z : ℕ) → z < W b → word b (wipe b m₁ q) q z ≡ word b (wipe b n₁ q) q z
-        on s z h =
-            wipe-same wide (inv₁ t .N) m₁ q z (kept₁ .sized) (compared-fits₁ s) h
-            ∙ sym (wipe-same wide (inv₂ t .N) n₁ q z (kept₂ .sized) (compared-fits₂ s) h)
-
-    -- ---- the words xs from word y of page q on
+    near-wipe q o = near-page q o (agree-wipe t agreed q) (wipe-other wide m₁ q) (wipe-other wide n₁ q)
 
     pub near-putL : (q y : ℕ) (xs : List ℕ) → y + length xs ≤ W b → Both q → Near (putL b m₁ q y xs) (putL b n₁ q y xs)
     near-putL q y xs l o =
-        near-page _ _ q (λ p z h e. putL-other wide m₁ q y xs p z l h e) (λ p z h e. putL-other wide n₁ q y xs p z l h e) on o
-        (putL-sized wide (inv₁ t .N) m₁ q y xs (kept₁ .sized)) (putL-sized wide (inv₂ t .N) n₁ q y xs (kept₂ .sized))
-      where
-        on : Compared t q → (z : ℕ) → z < W b → word b (putL b m₁ q y xs) q z ≡ word b (putL b n₁ q y xs) q z
-        on s z h = go (decLt z y)
-          where
-            go : Dec (z < y) → word b (putL b m₁ q y xs) q z ≡ word b (putL b n₁ q y xs) q z
-            go (yes f) = putL-before wide m₁ q y xs z f ∙ same q z s h ∙ sym (putL-before wide n₁ q y xs z f)
-            go (no f) =
-                putL-at wide (inv₁ t .N) m₁ q y xs (z - y) z (kept₁ .sized) (compared-fits₁ s) (omega arith) h
-                ∙ ap (getD xs (z - y)) (same q z s h)
-                ∙ sym (putL-at wide (inv₂ t .N) n₁ q y xs (z - y) z (kept₂ .sized) (compared-fits₂ s) (omega arith) h)
+        near-page q o (agree-putL t agreed q y xs l) (λ p z h e. putL-other wide m₁ q y xs p z l h e) (λ p z h e. putL-other wide n₁ q y xs p z l h e)
 
     pub near-fill : (q : ℕ) (xs : List ℕ) → length xs ≤ W b → Both q → Near (Mem.fill b m₁ q xs) (Mem.fill b n₁ q xs)
     near-fill q xs l o = subst₂ Near (sym (fill-is b m₁ q xs)) (sym (fill-is b n₁ q xs)) (near-putL q 0 xs (omega arith) o)
@@ -231,7 +174,7 @@ module _ {b B : ℕ} {m n : List ℕ} (t : Twin b B m n) where
           go : Written b m m₁ n₁ x d v y → word b (putAt b m₁ x d v y) q z ≡ word b (putAt b n₁ x d v y) q z
           go (neither e₁ e₂) = ap (λ (w : List ℕ). word b w q z) e₁ ∙ same q z s g ∙ ap (λ (w : List ℕ). word b w q z) (sym e₂)
           go (both n e₁ e₂) =
-              ap (λ (w : List ℕ). word b w q z) e₁ ∙ same-put (tablePage b m x d v) (off b v) y (off-lt wide v) q z s g
+              ap (λ (w : List ℕ). word b w q z) e₁ ∙ agree-put t agreed (tablePage b m x d v) (off b v) y (off-lt wide v) .same q z s g
               ∙ ap (λ (w : List ℕ). word b w q z) (sym e₂)
 
     -- a shadow 1 word of the caller

@@ -113,6 +113,7 @@ module _ {b : ℕ} (wide : 6 ≤ b) (m : List ℕ) (s : Sound b m) (q : ℕ) (u 
     wf = i .wf;
     full = i .full;
     root = i .root;
+    flags = i .flags;
     words = record {
       sized = put-sized wide (i .N) m q j x (i .words .sized);
       says = λ p y g k n. other p y (λ e. not-hand (ap (i .state .role) e ∙ free) n) k ∙ i .words .says p y g k n;

@@ -79,7 +79,7 @@ module _ {b : ℕ} (wide : 6 ≤ b) {m : List ℕ} (s : Sound b m) where
   module _ {m₁ : List ℕ} (k : Kept i m₁) {e : ℕ} (l : Low i e) where
     pub parent-kept : parent b m₁ e ≡ parent b m e
     unfolding word
-    parent-kept = ap (Geometry.pageOf b) (part-kept wide i (k .unchanged) l 11 (twelve-lt wide 11 (omega arith)))
+    parent-kept = ap (Geometry.pageOf b) (part-kept wide i (k .unchanged) l 11 (twelve-lt wide 11 (omega arith)) (λ y. omega arith))
 
     module _ (v : ℕ) (h : Virtual b v) where
       abbrev u : ℕ

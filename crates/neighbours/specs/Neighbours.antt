@@ -1,8 +1,9 @@
 -- "A neighbour's patient" (document 02, L11): what a partition and those below it are answered, and each word that they see, depends on nothing else.
 -- Assumes nothing.
 use mathlib.Core.Path.{_≡_}
+use mathlib.Core.Logic.{_≢_}
 use mathlib.Core.List.{List, [], _∷_, _++_}
-use mathlib.Core.Option.{none}
+use mathlib.Core.Option.{none, some}
 use Prim.Native.Nat.{ℕ, _<_}
 use Rattle.memory.specs.Geometry.{pageWords}
 use Rattle.memory.specs.Edition
@@ -12,8 +13,9 @@ use Rattle.memory.specs.Partition.{pages, current}
 use Rattle.memory.specs.Tree.{Child, InTree}
 use Rattle.memory.specs.Uses.{Way, inHand, KernelWay, UsedBy, Use}
 use Rattle.memory.specs.Sound.{Sound}
-use Rattle.rules.specs.Call.{Call, choice}
-use Rattle.rules.specs.Editions.{answer, after}
+use Rattle.memory.specs.Contexts.{toChildSlot}
+use Rattle.rules.specs.Call.{Call, choice, resumption}
+use Rattle.rules.specs.Editions.{answer, context, after}
 use Rattle.claim.specs.Kept.{Maps}
 
 -- ---- what B sees, in memory m of index width b
@@ -56,18 +58,29 @@ Stays B m (c ∷ cs) = let m₁ = after m c in (choice c ≡ none) × Within (wi
 
 -- ---- the promise
 
--- "Run the same calls in both .. Each answer is equal, refusals too, and so are those same pages' words after each call."
+-- "Run the same calls in both .. Each answer is equal, refusals too, and so are those same pages' words after each call." The words that a resume answers
+-- (document 02, L8) are part of its answer.
 abbrev pub Equal : ℕ → (ℕ → Type 0) → List ℕ → List ℕ → List Call → Type 0
 Equal b S m n [] = Unit {0}
-Equal b S m n (c ∷ cs) = (answer m c ≡ answer n c) × EqualOn b S (after m c) (after n c) × Equal b S (after m c) (after n c) cs
+Equal b S m n (c ∷ cs) =
+    (answer m c ≡ answer n c) × (context m c ≡ context n c) × EqualOn b S (after m c) (after n c) × Equal b S (after m c) (after n c) cs
+
+-- c is no resume of the parent's slot by B itself: that reads the parent's slot page, which B need not be shown
+abbrev pub Apart : ℕ → List ℕ → Call → Type 0
+Apart B m c = current (width m) m ≡ B → resumption c ≢ some (0, toChildSlot)
+
+abbrev pub AllApart : ℕ → List ℕ → List Call → Type 0
+AllApart B m [] = Unit {0}
+AllApart B m (c ∷ cs) = Apart B m c × AllApart B (after m c) cs
 
 -- "those same pages" are the ones that B is shown in m at the start
 pub record Neighbours : Type 0 where
   pub equal : (B : ℕ) (m n : List ℕ) → Alike B m n → (cs : List Call) → Stays B m cs → Stays B n cs → Equal (width m) (Shown (width m) m B) m n cs
-  -- the document asks that B or one below it stays current "in either": what is so in one run is so in the other
-  pub either : (B : ℕ) (m n : List ℕ) → Alike B m n → (cs : List Call) → Stays B m cs → Stays B n cs
+  -- the document asks that B or one below it stays current "in either". But for resumes of the parent's slot by B what is so in one run is so in the
+  -- other; such a resume may be refused in one and make the parent current in the other.
+  pub either : (B : ℕ) (m n : List ℕ) → Alike B m n → (cs : List Call) → Stays B m cs → AllApart B m cs → Stays B n cs
   -- and one more call, which may make another partition current, is answered alike, too
-  pub leaving : (B : ℕ) (m n : List ℕ) → Alike B m n → (cs : List Call) → Stays B m cs → (c : Call) → choice c ≡ none
+  pub leaving : (B : ℕ) (m n : List ℕ) → Alike B m n → (cs : List Call) → Stays B m cs → (c : Call) → choice c ≡ none → AllApart B m (cs ++ (c ∷ []))
       → Equal (width m) (Shown (width m) m B) m n (cs ++ (c ∷ []))
 
 -- ---- "All else may differ."

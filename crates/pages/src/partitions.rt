@@ -2,10 +2,12 @@
 use crate::addresses::PhysicalPage;
 use crate::addresses::page_of;
 use crate::words::read_word;
+use crate::words::write_word;
 ghost use mathlib.Core.Path.{_≡_};
 ghost use Rattle.memory.specs.Geometry.{pageOf};
 ghost use Rattle.memory.specs.Words.{word};
 ghost use Rattle.memory.specs.Partition;
+ghost use Rattle.memory.specs.Partition.{setFlag};
 ghost use Rattle.pages.specs.Width.{Width};
 
 // "word 0 N"
@@ -67,6 +69,21 @@ pub fn parent(b: u32, m: &[u32], d: PhysicalPage) -> PhysicalPage
     ensures { λ r. ⌜ r .0 ≡ Partition.parent b (now (m .entry)) (d .0) ⌝ }
 {
     named(b, m, d, 11)
+}
+
+// "The live vcli flag is word 12 of the descriptor" (document 02, L8).
+pub fn flag(b: u32, m: &[u32], d: PhysicalPage) -> u32
+    requires { ⌜ Width b ⌝ }
+    ensures { λ r. ⌜ r ≡ Partition.flag b (now (m .entry)) (d .0) ⌝ }
+{
+    read_word(b, m, d, 12)
+}
+
+pub fn set_flag(b: u32, m: &mut [u32], d: PhysicalPage, x: u32)
+    requires { ⌜ Width b ⌝ }
+    ensures { λ r. ⌜ now (m .exit) ≡ setFlag b (now (m .entry)) (d .0) x ⌝ }
+{
+    write_word(b, m, d, 12, x);
 }
 
 // "word 0 first free word index, 1+6n with n threes"

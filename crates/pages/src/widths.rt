@@ -2,7 +2,7 @@
 use crate::words::read;
 ghost use mathlib.Core.Path.{_≡_};
 ghost use Prim.Native.Nat.{_≤_, _<_};
-ghost use Rattle.memory.specs.Geometry.{widthOf, editionOf, pageWords, pageBytes};
+ghost use Rattle.memory.specs.Geometry.{widthOf, editionOf, mostFlag, pageWords, pageBytes};
 ghost use Rattle.memory.specs.Edition;
 ghost use Rattle.pages.specs.Width.{Width};
 
@@ -22,6 +22,13 @@ pub fn edition_of(b: u32) -> u32
     ensures { λ r. ⌜ (r ≡ editionOf b) × (r < 2) ⌝ }
 {
     if b == WIDTHS[0] { 0 } else { 1 }
+}
+
+// "The live vcli flag is .. 0 or 1", and 0 on the other edition: the most that it can be.
+pub fn most_flag(b: u32) -> u32
+    ensures { λ r. ⌜ r ≡ mostFlag b ⌝ }
+{
+    1 - edition_of(b)
 }
 
 // The width by which a memory is read: that of the edition that its header names, or of the old one where it names none.

@@ -10,17 +10,19 @@ use Rattle.memory.specs.Geometry.{address, pageOf}
 use Rattle.memory.specs.Words.{fill, wipe}
 use Rattle.memory.specs.Format.{format}
 use Rattle.memory.specs.Partition.{parent, lent, mapping}
+use Rattle.memory.specs.Contexts.{valid}
 use Rattle.memory.proofs.Overwrite.{length-overwrite}
 use Rattle.memory.proofs.Pages.{length-wipe}
 use Rattle.memory.proofs.Tables.{length-putTableWord}
 use Rattle.memory.proofs.Format.{length-tabulate}
 use Rattle.rules.specs.Refusal.{SIZE}
 use Rattle.rules.specs.Row.{pass}
-use Rattle.rules.specs.Call.{Call, formatAll, createPartition, deletePartition, addVAddr, removeVAddr, pageCount, prepare, collect, mappedInChild, enter, leave, load, store}
+use Rattle.rules.specs.Call.{Call, formatAll, createPartition, deletePartition, addVAddr, removeVAddr, pageCount, prepare, collect}
+use Rattle.rules.specs.Call.{mappedInChild, enter, leave, load, store, notify, dispatch, resume}
 use Rattle.rules.specs.Moves.{wiped, mark, takePage, returnPage, takeAll, returnAll}
-use Rattle.rules.specs.Conditions.{unfit}
+use Rattle.rules.specs.Conditions.{unfit, target}
 use Rattle.rules.specs.Refusals.{refusals, refusal}
-use Rattle.rules.specs.Effects.{create, release, releaseAll, delete, add, remove, prepareThree, collectThree, effect}
+use Rattle.rules.specs.Effects.{create, release, releaseAll, delete, add, remove, prepareThree, collectThree, switch, save, restore, effect}
 use Rattle.rules.specs.Calls.{after}
 use Rattle.rules.specs.Editions as E
 use Rattle.rules.proofs.Rows.{clear}
@@ -65,7 +67,7 @@ module _ (b : ℕ) where
   ruleset stores = (length-set, length-overwrite, length-putTableWord, length-takeAll, length-returnAll, length-releaseAll)
 
   pub length-effect : (m : List ℕ) (c : Call) → refusal b m c ≡ 0 → length (effect b m c) ≡ length m
-  unfolding refusals effect create delete add remove prepareThree collectThree format fill
+  unfolding refusals effect create delete add remove prepareThree collectThree switch save restore format fill
   length-effect m (formatAll f) e = length-tabulate 0 _ _ ∙ sym (fits m f (clear SIZE (unfit f m) [] e .0) .size .whole)
   length-effect m (createPartition p d s t l) e = simp stores
   length-effect m (deletePartition c) e = simp stores
@@ -79,6 +81,9 @@ module _ (b : ℕ) where
   length-effect m leave e = simp stores
   length-effect m (load a) e = refl
   length-effect m (store a x) e = simp stores
+  length-effect m (notify t p f r) e = simp stores
+  length-effect m (dispatch t) e = simp stores
+  length-effect m (resume t s) e = length-cond (valid b m (target b m t) s) _ _ _ (simp stores) (simp stores)
 
   -- no call changes the length, on any memory
   pub length-after : (m : List ℕ) (c : Call) → length (after b m c) ≡ length m

@@ -5,12 +5,13 @@ use mathlib.Core.List.{List, [], _∷_, _++_}
 use mathlib.Core.Bool.{Bool, true, false, cond}
 use Prim.Native.Nat.{ℕ, zero, suc}
 use native.Mathlib.Omega.{arith}
-use Rattle.rules.specs.Refusal.{Refusal, number, DAMAGED, SIZE, ADDRESS, TWICE, CHILD, RIGHTS, HAND, TABLE, TAKEN, LIST, CHAIN, FULL-TABLE, DEPTH, ROOT, UNMAPPED, KERNEL, SHORT, MAGIC}
+use Rattle.rules.specs.Refusal.{Refusal, number, DAMAGED, SIZE, ADDRESS, TWICE, CHILD, RIGHTS, HAND, TABLE, TAKEN, LIST, CHAIN, FULL-TABLE}
+use Rattle.rules.specs.Refusal.{DEPTH, ROOT, UNMAPPED, KERNEL, SHORT, MAGIC, SLOT-PAGE, SLOT, EMPTY-SLOT, EDITION}
 use Rattle.rules.specs.Row.{Check, _when_, first, reply, pass, ok, no}
-use Rattle.rules.specs.Call.{Call}
+use Rattle.rules.specs.Call.{Call, resumption}
 use Rattle.rules.specs.Refusals.{refusals}
 use Rattle.rules.specs.Effects.{effect}
-use Rattle.rules.specs.Calls.{result, answer, after}
+use Rattle.rules.specs.Calls.{result, answer, resumed, context, after}
 
 pub data First : List Check → ℕ → Type 0 where
   none : First [] 0
@@ -51,6 +52,10 @@ number-some UNMAPPED = omega arith
 number-some KERNEL = omega arith
 number-some SHORT = omega arith
 number-some MAGIC = omega arith
+number-some SLOT-PAGE = omega arith
+number-some SLOT = omega arith
+number-some EMPTY-SLOT = omega arith
+number-some EDITION = omega arith
 
 -- the first test is false, and so are those behind it
 pub clear : (r : Refusal) (t : Bool) (cs : List Check) → first (r when t ∷ cs) ≡ 0 → (t ≡ false) × (first cs ≡ 0)
@@ -67,7 +72,19 @@ pub passed : (cs : List Check) → first cs ≡ 0 → Passed cs
 passed [] e = tt
 passed (r when t ∷ cs) e = let x = clear r t cs e in (x .0, passed cs (x .1))
 
--- ---- a row that goes on in another: n is what the first row comes to
+pub first-passed : (cs : List Check) → Passed cs → first cs ≡ 0
+unfolding first
+first-passed [] p = refl
+first-passed (r when true ∷ cs) (p, q) = let z : _≡_ {A = ℕ} 0 1 = cc in absurd (omega arith)
+first-passed (r when false ∷ cs) (p, q) = first-passed cs q
+
+-- ---- a row that goes on in another
+
+pub split : (xs ys : List Check) → Passed (xs ++ ys) → Passed xs × Passed ys
+split [] ys p = (tt, p)
+split (r when t ∷ xs) ys p = let q = split xs ys (p .1) in ((p .0, q .0), q .1)
+
+-- n is what the first row comes to
 
 first-stop : (xs ys : List Check) → first xs ≢ 0 → first (xs ++ ys) ≡ first xs
 unfolding first
@@ -98,6 +115,10 @@ module _ (b : ℕ) (m : List ℕ) (c : Call) where
   pub after-no : (n : ℕ) → First (refusals b m c) (suc n) → after b m c ≡ m
   unfolding after pass
   after-no n e = ap (λ (k : ℕ). pass k (effect b m c) m) (first-is e)
+
+  pub context-no : (n : ℕ) → First (refusals b m c) (suc n) → context b m c ≡ resumed b m (suc n) (resumption c)
+  unfolding context
+  context-no n e = ap (λ (k : ℕ). resumed b m k (resumption c)) (first-is e)
 
   pub answer-ok : First (refusals b m c) 0 → answer b m c ≡ ok (result b m c)
   unfolding answer reply

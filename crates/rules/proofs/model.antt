@@ -1,6 +1,7 @@
 pub mod Base
 pub mod Words
 pub mod Abs
+pub mod Flags
 pub mod Apart
 pub mod Facts
 pub mod Read

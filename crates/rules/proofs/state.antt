@@ -9,3 +9,4 @@ pub mod Rooted
 pub mod Represented
 pub mod Keeps
 pub mod Promises
+pub mod GivenBack

@@ -34,6 +34,8 @@ pub mod KeepAdd
 pub mod KeepCreate
 pub mod KeepDelete
 pub mod Deleted
+pub mod Live
+pub mod KeepContexts
 pub mod Step
 pub mod MappedInChild
 pub mod ThreeHeld
@@ -43,4 +45,11 @@ pub mod ThreeCarry
 pub mod ThreeCreate
 pub mod ThreeKept
 pub mod Editions
+pub mod ReadRows
+pub mod ReadSlots
 pub mod Reading
+pub mod OneEdition
+pub mod Switch
+pub mod ToChild
+pub mod Saved
+pub mod GivenBack

@@ -1,15 +1,22 @@
 -- What each call answers and leaves on memory that is read by the index width b. Assumes nothing.
 use mathlib.Core.List.{List, [], _∷_}
 use mathlib.Core.Bool.{cond}
+use mathlib.Core.Option.{Option, none, some}
 use Prim.Native.Nat.{ℕ, _+_, _*_}
-use lib.ListN.{getD}
+use lib.ListN.{getD, replicate}
 use Rattle.memory.specs.Words.{word}
 use Rattle.memory.specs.Partition.{current, list, lent, above}
+use Rattle.memory.specs.Contexts.{savedWords, valid, savedIn}
 use Rattle.rules.specs.Row.{Answer, reply, pass}
-use Rattle.rules.specs.Call.{Call, formatAll, createPartition, deletePartition, addVAddr, removeVAddr, pageCount, prepare, collect, mappedInChild, enter, leave, load, store}
-use Rattle.rules.specs.Conditions.{child, noThree}
+use Rattle.rules.specs.Call.{Call, formatAll, createPartition, deletePartition, addVAddr, removeVAddr, pageCount, prepare, collect}
+use Rattle.rules.specs.Call.{mappedInChild, enter, leave, load, store, notify, dispatch, resume, resumption}
+use Rattle.rules.specs.Conditions.{child, noThree, target}
 use Rattle.rules.specs.Refusals.{refusal}
 use Rattle.rules.specs.Effects.{threePlace, wordAt, effect}
+
+-- eleven zeros
+abbrev pub noContext : List ℕ
+noContext = replicate savedWords 0
 
 module _ (b : ℕ) where
   -- "Success answers 0 unless said."
@@ -32,10 +39,23 @@ module _ (b : ℕ) where
   -- "answers the word"
   result m (load a) = getD m (wordAt b m a) 0
   result m (store a x) = 0
+  result m (notify t e f r) = 0
+  result m (dispatch t) = 0
+  -- the words that it answers are `context`
+  result m (resume t s) = 0
 
   -- "each call in turn .. has its written effect and answer on the words so far, or its first refusal's number and no change"
   unfoldable pub answer : List ℕ → Call → Answer
   answer m c = reply (refusal b m c) (result m c)
+
+  -- document 02, L8: the words that a call answers beside, n being the number of its refusal or 0. "Resume answers the saved words", or, where the
+  -- parent's slot isn't valid, "eleven zeros"; zeros beside a refusal. No other call has any.
+  unfoldable pub resumed : List ℕ → ℕ → Option (ℕ × ℕ) → List ℕ
+  resumed m n none = []
+  resumed m n (some (t, s)) = pass n (cond (valid b m (target b m t) s) (savedIn b m (target b m t) s) noContext) noContext
+
+  unfoldable pub context : List ℕ → Call → List ℕ
+  context m c = resumed m (refusal b m c) (resumption c)
 
   unfoldable pub after : List ℕ → Call → List ℕ
   after m c = pass (refusal b m c) (effect b m c) m

@@ -1,16 +1,17 @@
 -- The conditions under which a refusal is given, each with the words of "When the kernel says no". Assumes nothing.
 use mathlib.Core.List.{List, [], _∷_, _++_}
-use mathlib.Core.Bool.{Bool, false, not, _&&_, _||_}
+use mathlib.Core.Bool.{Bool, false, cond, not, _&&_, _||_}
 use Prim.Native.Nat.{ℕ, _*_, _/_, _%_}
 use lib.Dec.{leb, ltb, eqb}
 use lib.ListN.{length}
 use Rattle.walk.specs.Finite.{any}
-use Rattle.memory.specs.Geometry.{widths, widthOf, pageWords, pageBytes, addressEnd, pageOf, leastPages, mostPages, mostThrees, mostDepth}
+use Rattle.memory.specs.Geometry.{widths, widthOf, editionOf, pageWords, pageBytes, addressEnd, pageOf, leastPages, mostPages, mostThrees, mostDepth}
 use Rattle.memory.specs.Words.{word, page}
 use Rattle.memory.specs.Entry.{accessible, holds}
 use Rattle.memory.specs.Partition.{current, parent, threes, tableFor, mapping, lent, inHand}
+use Rattle.memory.specs.Contexts.{mostSlot, toChildSlot, valid}
 use Rattle.soundness.specs.Test.{soundTest}
-use Rattle.rules.specs.Refusal.{CHAIN, HAND, RIGHTS}
+use Rattle.rules.specs.Refusal.{DAMAGED, ADDRESS, CHILD, RIGHTS, HAND, CHAIN, ROOT, EDITION}
 use Rattle.rules.specs.Row.{Check, _when_}
 use Rattle.rules.specs.Moves.{depth}
 
@@ -18,6 +19,10 @@ use Rattle.rules.specs.Moves.{depth}
 abbrev pub twice : List ℕ → Bool
 twice [] = false
 twice (x ∷ xs) = any (eqb x) xs || twice xs
+
+-- 21: "a slot number above 3 or not allowed": "a child only slot 2 of its parent"
+abbrev pub badSlot : ℕ → ℕ → Bool
+badSlot t s = ltb mostSlot s || (eqb t 0 && not (eqb s toChildSlot))
 
 module _ (b : ℕ) where
   -- 1: "memory not sound" (soundTest decides Sound: the crate soundness, Whole.antt, sound?)
@@ -110,6 +115,35 @@ module _ (b : ℕ) where
       ++ inChain m (p ∷ []) (link m p)
       ++ inChain m (p ∷ link m p ∷ []) (link m (link m p))
       ++ (CHAIN when not (eqb (link m (link m (link m p))) 0) ∷ [])
+
+  -- ---- to a child, or to the parent under address 0 (document 02, L8)
+
+  -- the partition that the target t names
+  unfoldable pub target : List ℕ → ℕ → ℕ
+  target m t = cond (eqb t 0) (parent b m (current b m)) (child m t)
+
+  -- 24: "256-byte edition only: on the other these calls answer 24, right after 1"
+  abbrev pub otherEdition : Bool
+  otherEdition = not (eqb (editionOf b) 0)
+
+  -- 3: "its parent under address 0 (no refusal 3 here)"; 5: "for no such child"; 14: "for root's parent"
+  abbrev pub badTarget : ℕ → Bool
+  badTarget t = not (eqb t 0) && badPage t
+
+  abbrev pub noSuchChild : List ℕ → ℕ → Bool
+  noSuchChild m t = not (eqb t 0) && noChild m t
+
+  abbrev pub noParent : List ℕ → ℕ → Bool
+  noParent m t = eqb t 0 && atRoot m
+
+  -- "checked 1, 3, 5 or 14": the checks that the three calls begin with
+  abbrev pub toward : List ℕ → ℕ → List Check
+  toward m t =
+      DAMAGED when damaged m ∷ EDITION when otherEdition ∷ ADDRESS when badTarget t ∷ CHILD when noSuchChild m t ∷ ROOT when noParent m t ∷ []
+
+  -- 22: "for a child's slot not valid"
+  abbrev pub emptySlot : List ℕ → ℕ → ℕ → Bool
+  emptySlot m t s = not (eqb t 0) && not (valid b m (target m t) s)
 
 -- 2, of format for edition e: "format takes the choice and any other value is refused with 2" (document 02, L4)
 abbrev pub unfit : ℕ → List ℕ → Bool

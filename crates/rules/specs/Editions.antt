@@ -17,6 +17,9 @@ answer m c = C.answer (width m) m c
 unfoldable pub after : List ℕ → Call → List ℕ
 after m c = C.after (width m) m c
 
+unfoldable pub context : List ℕ → Call → List ℕ
+context m c = C.context (width m) m c
+
 -- the memory after a list of calls, and the answers on the way
 unfoldable pub run : List ℕ → List Call → List ℕ
 run m [] = m
@@ -25,6 +28,11 @@ run m (c ∷ cs) = run (after m c) cs
 unfoldable pub answers : List ℕ → List Call → List Answer
 answers m [] = []
 answers m (c ∷ cs) = answer m c ∷ answers (after m c) cs
+
+-- the words that are answered beside (document 02, L8)
+unfoldable pub contexts : List ℕ → List Call → List (List ℕ)
+contexts m [] = []
+contexts m (c ∷ cs) = context m c ∷ contexts (after m c) cs
 
 -- the edition by the last format that passed: e before the calls. Whether a format passes is told by the memory's length and its argument alone.
 unfoldable pub nextEdition : List ℕ → ℕ → Option ℕ → ℕ

@@ -1,17 +1,20 @@
 -- The table's third column: what each call that is not refused leaves in memory. d is the caller, k the child's descriptor page. Assumes nothing.
 use mathlib.Core.List.{List, [], _∷_, _++_}
 use mathlib.Core.Bool.{cond}
-use Prim.Native.Nat.{ℕ, zero, suc, _+_, _-_, _*_, _/_}
+use Prim.Native.Nat.{ℕ, zero, suc, _+_, _-_, _*_, _/_, _%_}
 use lib.Dec.{eqb}
 use lib.ListN.{getD, set, take, drop, replicate}
 use Rattle.memory.specs.Geometry.{widthOf, pageWords, address, pageOf, directoryIndex, place}
 use Rattle.memory.specs.Words.{index, page, word, put, overwrite, fill}
 use Rattle.memory.specs.Entry.{entry, accessible}
 use Rattle.memory.specs.Format.{format}
-use Rattle.memory.specs.Partition.{current, directory, shadow1, shadow2, list, parent, threes, tableFor, mapping, lent, above, setMapping, setLent, setAbove}
-use Rattle.rules.specs.Call.{Call, formatAll, createPartition, deletePartition, addVAddr, removeVAddr, pageCount, prepare, collect, mappedInChild, enter, leave, load, store}
+use Rattle.memory.specs.Partition.{current, directory, shadow1, shadow2, list, parent, threes, tableFor, mapping, lent, above, setMapping, setLent}
+use Rattle.memory.specs.Partition.{setAbove, flag, setFlag}
+use Rattle.memory.specs.Contexts.{toChildSlot, toParentSlot, pipflagsPlace, slotWord, valid, saveIn, clearValid}
+use Rattle.rules.specs.Call.{Call, formatAll, createPartition, deletePartition, addVAddr, removeVAddr, pageCount, prepare, collect}
+use Rattle.rules.specs.Call.{mappedInChild, enter, leave, load, store, notify, dispatch, resume, Registers, registerWords}
 use Rattle.rules.specs.Moves.{takeAll, returnAll, returnPage, pairs}
-use Rattle.rules.specs.Conditions.{pagesIn, child, link}
+use Rattle.rules.specs.Conditions.{pagesIn, child, link, target}
 
 -- every second word of a list, from the first
 abbrev pub evens : List ℕ → List ℕ
@@ -115,6 +118,25 @@ module _ (b : ℕ) where
   abbrev pub wordAt : List ℕ → ℕ → ℕ
   wordAt m a = index b (pageOf b (mapping b m (current b m) a)) (place b a / 4)
 
+  -- document 02, L8: the flag of the caller d becomes x, that of k becomes y, and k is current
+  unfoldable pub switch : List ℕ → ℕ → ℕ → ℕ → ℕ → List ℕ
+  switch m d k x y = put b (setFlag b (setFlag b m d x) k y) 0 4 (address b k)
+
+  -- 000, of dispatch and notify: "In the calling partition: If target is a child, vcli = 0"; else "a flag for which neither 000 nor this request gives
+  -- one stays"
+  abbrev pub callerFlag : List ℕ → ℕ → ℕ
+  callerFlag m t = cond (eqb t 0) (flag b m (current b m)) 0
+
+  -- "saves them with the caller's old flag and valid 1 in the caller's slot 2 (to a child) or 3 (to its parent)"
+  unfoldable pub save : List ℕ → ℕ → ℕ → ℕ → ℕ → Registers → List ℕ
+  save m d t e f r = saveIn b m d (cond (eqb t 0) toParentSlot toChildSlot) (e ∷ flag b m d ∷ f ∷ (registerWords r ++ (1 ∷ [])))
+
+  -- "clears valid and sets the target's flag to bit 0 of the saved pipflags"; 000: "In the calling partition: vcli = 0". If the parent's slot "isn't valid
+  -- the root becomes current with flag 1, the caller's flag is 0, slot words stay".
+  unfoldable pub restore : List ℕ → ℕ → ℕ → ℕ → List ℕ
+  restore m d k s =
+      cond (valid b m k s) (switch (clearValid b m k s) d k 0 (slotWord b m k s pipflagsPlace % 2)) (switch m d 1 0 1)
+
   unfoldable pub effect : List ℕ → Call → List ℕ
   effect m (formatAll e) = format (widthOf e) (pagesIn (widthOf e) m)
   effect m (createPartition p d s t l) = create m (current b m) (p ∷ d ∷ s ∷ t ∷ l ∷ []) p l
@@ -131,3 +153,8 @@ module _ (b : ℕ) where
   effect m (load a) = m
   -- 12: "writes it"
   effect m (store a x) = set m (wordAt m a) x
+  -- 000, of both: "In the target partition: vcli = 1"; "the target becomes current"
+  effect m (notify t e f r) = switch (save m (current b m) t e f r) (current b m) (target b m t) (callerFlag m t) 1
+  -- "Dispatch saves nothing."
+  effect m (dispatch t) = switch m (current b m) (target b m t) (callerFlag m t) 1
+  effect m (resume t s) = restore m (current b m) (target b m t) s

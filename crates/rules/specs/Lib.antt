@@ -12,6 +12,8 @@ pub mod SameChain
 pub mod PageTold
 pub mod Deleted
 pub mod Reads
+pub mod OneEdition
+pub mod GivenBack
 pub mod Bytes
 pub mod Record
 pub mod Replay

@@ -1,8 +1,10 @@
--- "When the kernel says no": the eighteen refusals and their numbers. Assumes nothing.
+-- "When the kernel says no": the eighteen refusals and their numbers, and those of document 02. Assumes nothing.
 use Prim.Native.Nat.{ℕ}
 
 pub data Refusal : Type 0 where
   DAMAGED SIZE ADDRESS TWICE CHILD RIGHTS HAND TABLE TAKEN LIST CHAIN FULL-TABLE DEPTH ROOT UNMAPPED KERNEL SHORT MAGIC : Refusal
+  -- document 02, L8
+  SLOT-PAGE SLOT EMPTY-SLOT EDITION : Refusal
 
 abbrev pub number : Refusal → ℕ
 number DAMAGED = 1
@@ -23,3 +25,7 @@ number UNMAPPED = 15
 number KERNEL = 16
 number SHORT = 17
 number MAGIC = 18
+number SLOT-PAGE = 20
+number SLOT = 21
+number EMPTY-SLOT = 22
+number EDITION = 24

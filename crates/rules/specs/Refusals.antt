@@ -1,16 +1,19 @@
 -- The table's last column: each call's refusals in order. "Each check runs over all its arguments before the next begins." Assumes nothing.
-use mathlib.Core.List.{List, [], _∷_}
+use mathlib.Core.List.{List, [], _∷_, _++_}
 use mathlib.Core.Bool.{not}
 use Prim.Native.Nat.{ℕ}
 use lib.Dec.{leb}
 use Rattle.walk.specs.Finite.{any}
 use Rattle.memory.specs.Entry.{readRight, writeRight, leastBoth}
 use Rattle.memory.specs.Partition.{current, inHand}
-use Rattle.rules.specs.Refusal.{DAMAGED, SIZE, ADDRESS, TWICE, CHILD, RIGHTS, HAND, TABLE, TAKEN, LIST, FULL-TABLE, DEPTH, ROOT, UNMAPPED, KERNEL}
+use Rattle.memory.specs.Contexts.{noSlots}
+use Rattle.rules.specs.Refusal.{DAMAGED, SIZE, ADDRESS, TWICE, CHILD, RIGHTS, HAND, TABLE, TAKEN, LIST, FULL-TABLE, DEPTH, ROOT, UNMAPPED}
+use Rattle.rules.specs.Refusal.{KERNEL, SLOT-PAGE, SLOT, EMPTY-SLOT}
 use Rattle.rules.specs.Row.{Check, _when_, first}
-use Rattle.rules.specs.Call.{Call, formatAll, createPartition, deletePartition, addVAddr, removeVAddr, pageCount, prepare, collect, mappedInChild, enter, leave, load, store}
+use Rattle.rules.specs.Call.{Call, formatAll, createPartition, deletePartition, addVAddr, removeVAddr, pageCount, prepare, collect, mappedInChild}
+use Rattle.rules.specs.Call.{enter, leave, load, store, notify, dispatch, resume}
 use Rattle.rules.specs.Conditions.{twice, damaged, badAddress, badPage, noChild, child, lacks, notInHand, noThree, unmapped, mapped, listFull}
-use Rattle.rules.specs.Conditions.{anyMapping, tooDeep, atRoot, inaccessible, servesChild, chain, unfit}
+use Rattle.rules.specs.Conditions.{anyMapping, tooDeep, atRoot, inaccessible, servesChild, chain, unfit, target, toward, badSlot, emptySlot}
 
 module _ (b : ℕ) where
   unfoldable pub refusals : List ℕ → Call → List Check
@@ -57,6 +60,11 @@ module _ (b : ℕ) where
   refusals m (store a x) =
       DAMAGED when damaged b m ∷ ADDRESS when badAddress b 4 a ∷ UNMAPPED when unmapped b m (current b m) a ∷ KERNEL when inaccessible b m a
       ∷ RIGHTS when lacks b writeRight m a ∷ []
+  -- document 02, L8: "checked 1, 3, 5 or 14, 21, 20, 22", and 24 "right after 1"
+  refusals m (notify t e f r) = toward b m t ++ (SLOT-PAGE when noSlots b m (current b m) ∷ [])
+  refusals m (dispatch t) = toward b m t
+  refusals m (resume t s) =
+      toward b m t ++ (SLOT when badSlot t s ∷ SLOT-PAGE when noSlots b m (target b m t) ∷ EMPTY-SLOT when emptySlot b m t s ∷ [])
 
   -- the number of the first refusal that applies, or 0
   abbrev pub refusal : List ℕ → Call → ℕ

@@ -1,7 +1,7 @@
 // Runs sequences of calls and prints the answers. The input is little-endian words, for each memory the number of its words (0 ends the input), then
 // parts: for each the number of its words (0 ends the memory's parts) and these, calls one behind the other. Every word of a memory is 7 at first. The
-// output has a line for each call that is run and, for each part, the memory's hash; then the verdict of the memory, and what
-// the start-up record's writer and reader say of it.
+// output has a line for each number of the answers, one a call and twelve a resume, and, for each part, the memory's hash; then the verdict of the
+// memory, and what the start-up record's writer and reader say of it.
 pub mod hash;
 pub mod records;
 pub mod sequences;

@@ -4,7 +4,7 @@ use crate::records::print_records;
 use libc::STDOUT_FILENO;
 ghost use Prim.Native.Nat.{_≤_};
 
-// "ok" and the word, or "no" and the refusal's number.
+// A number of an answer: "ok" and the word, or "no" and the refusal's number.
 fn print_answer(x: u64) {
     if x < 4294967296 {
         io::write_all(STDOUT_FILENO, b"ok ");
@@ -16,11 +16,14 @@ fn print_answer(x: u64) {
     io::write_all(STDOUT_FILENO, b"\n");
 }
 
-// The first n answers.
-fn print_answers(answers: &[u64], n: usize) {
+// A number that is no answer.
+const NONE: u64 = 0xFFFF_FFFF_FFFF_FFFF;
+
+// The numbers of the answers, up to the first that no call wrote.
+fn print_answers(answers: &[u64]) {
     let mut i = 0;
     while i < answers.len() {
-        if i == n {
+        if answers[i] == NONE {
             return;
         }
         print_answer(answers[i]);
@@ -28,11 +31,11 @@ fn print_answers(answers: &[u64], n: usize) {
     }
 }
 
-// Runs the calls and prints their answers and the memory's hash.
+// Runs the calls, as many as there is room for answers, and prints these and the memory's hash.
 fn run_calls(m: &mut [u32], calls: &[u32]) {
-    let mut answers = [0u64; 64];
-    let n = kernel::run(m, calls, &mut answers);
-    print_answers(&answers, n);
+    let mut answers = [NONE; 64];
+    kernel::run(m, calls, &mut answers);
+    print_answers(&answers);
     io::print_decimal(STDOUT_FILENO, hash(m) as u64);
     io::write_all(STDOUT_FILENO, b"\n");
 }

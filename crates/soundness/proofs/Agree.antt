@@ -42,9 +42,11 @@ module _ (b : ℕ) (m : List ℕ) where
   pub descriptor? : (d : ℕ) → Tells (T.descriptorTest b m d) (S.DescriptorForm b m d)
   unfolding T.descriptorTest
   descriptor? d =
-      via (both (both (both (all? (from 5 0) (below 5) (λ j. both (virtual? b) physical?)) eq?) physical?) (all? (from (pageWords b) 0) (below (pageWords b)) (λ i. given le? eq?)))
-      (λ (((p, z), q), r). record { pairs = p; zero = z; parent = q; rest = r })
-      (λ h. (((h .pairs, h .zero), h .parent), h .rest))
+      via (both
+      (both (both (both (all? (from 5 0) (below 5) (λ j. both (virtual? b) physical?)) eq?) physical?) le?)
+      (all? (from (pageWords b) 0) (below (pageWords b)) (λ i. given le? eq?)))
+      (λ ((((p, z), q), f), r). record { pairs = p; zero = z; parent = q; flag = f; rest = r })
+      (λ h. ((((h .pairs, h .zero), h .parent), h .flag), h .rest))
 
   tableLink? : {w : ℕ} → Tells (T.tableLink b m w) (S.TableLink b m w)
   unfolding T.tableLink
@@ -84,7 +86,7 @@ module _ (b : ℕ) (m : List ℕ) where
   unfolding T.rootTest T.rootMapTest
   root? =
       via (both
-      (all? (from 5 0) (below 5) (λ p. all? (from (pageWords b) 0) (below (pageWords b)) (λ i. eq?)))
+      (all? (from 5 0) (below 5) (λ p. all? (from (pageWords b) 0) (below (pageWords b)) (λ i. unless (both eq? eq?) eq?)))
       (all? (C.tabled b m 1) (tabled-is b m 1) (λ v. both (choose (both le? le?) (both eq? eq?) eq?) eq?)))
       (λ (f, t). record { five = f; maps = λ v h. t v h .0 .0; only = λ v h. t v h .0 .1; shadow2Words = λ v h. t v h .1 })
       (λ r. (r .five, λ v h. ((r .maps v h, r .only v h), r .shadow2Words v h)))

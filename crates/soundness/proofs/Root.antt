@@ -42,8 +42,8 @@ module _ (b : ℕ) (m : List ℕ) (r : S.Root b m) where
       sym (h .virtual .0) ∙ ap (address b) q ∙ i .virtual .0
 
   module _ (big : 61 ≤ pageWords b) where
-    root-page : (i k : ℕ) → i < 61 → formatWord b (pages b m) 1 i ≡ address b k → pageOf b (word b m 1 i) ≡ k
-    root-page i k h e = ap (pageOf b) (r .five 0 (omega arith) i (omega arith) ∙ e) ∙ page-address b k
+    root-page : (i k : ℕ) → i < 12 → formatWord b (pages b m) 1 i ≡ address b k → pageOf b (word b m 1 i) ≡ k
+    root-page i k h e = ap (pageOf b) (r .five 0 (omega arith) i (omega arith) (λ (x, y). omega arith) ∙ e) ∙ page-address b k
 
     pub root-parent : parent b m 1 ≡ 0
     unfolding formatWord
@@ -69,7 +69,7 @@ module _ (b : ℕ) (m : List ℕ) (r : S.Root b m) where
 
     -- the words of its list, and the pages there
     root-list : (i : ℕ) → i < 61 → word b m (list b m 1) i ≡ formatWord b (pages b m) 5 i
-    root-list i h = ap (λ (p : ℕ). word b m p i) (root-own 4 (omega arith)) ∙ r .five 4 (omega arith) i (omega arith)
+    root-list i h = ap (λ (p : ℕ). word b m p i) (root-own 4 (omega arith)) ∙ r .five 4 (omega arith) i (omega arith) (λ (x, y). omega arith)
 
     module _ (l : S.ListForm b m 1) where
       pub root-threes : threes b m 1 ≡ threesFor b (pages b m)

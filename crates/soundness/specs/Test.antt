@@ -9,7 +9,8 @@ use lib.ListN.{length, getD}
 use Rattle.walk.specs.Finite.{from, all, any, image, once}
 use Rattle.walk.specs.Marks.{Seen}
 use Rattle.walk.specs.Walk as W
-use Rattle.memory.specs.Geometry.{editionOf, pageWords, addressEnd, address, pageOf, threesFor, flatPages, leastPages, mostPages, mostThrees, mostDepth}
+use Rattle.memory.specs.Geometry.{editionOf, mostFlag, pageWords, addressEnd, address, pageOf, threesFor, flatPages, leastPages, mostPages}
+use Rattle.memory.specs.Geometry.{mostThrees, mostDepth}
 use Rattle.memory.specs.Words.{word}
 use Rattle.memory.specs.Entry.{entry, accessible, rights, allRights, holds, writeAndExecute}
 use Rattle.memory.specs.Format.{formatWord}
@@ -37,7 +38,8 @@ module _ (b : ℕ) (m : List ℕ) where
   descriptorTest d =
       all (λ j. virtual b (word b m d (2 * j)) && physical (word b m d (2 * j + 1))) (from 5 0)
       && eqb (word b m d 10) 0 && physical (word b m d 11)
-      && all (λ i. not (leb 12 i) || eqb (word b m d i) 0) (from (pageWords b) 0)
+      && leb (word b m d 12) (mostFlag b)
+      && all (λ i. not (leb 13 i) || eqb (word b m d i) 0) (from (pageWords b) 0)
 
   unfoldable pub tableLink : ℕ → Bool
   tableLink w = eqb w 0 || (eqb (address b (pageOf b w) + 1) w && ltb (pageOf b w) (pages b m))
@@ -78,7 +80,7 @@ module _ (b : ℕ) (m : List ℕ) where
 
   unfoldable pub rootTest : Bool
   rootTest =
-      all (λ p. all (λ i. eqb (word b m (1 + p) i) (formatWord b (pages b m) (1 + p) i)) (from (pageWords b) 0)) (from 5 0)
+      all (λ p. all (λ i. (eqb p 0 && eqb i 12) || eqb (word b m (1 + p) i) (formatWord b (pages b m) (1 + p) i)) (from (pageWords b) 0)) (from 5 0)
       && all rootMapTest (tabled b m 1)
 
   -- ---- 3

@@ -1,10 +1,10 @@
 //! A call by its number and arguments, made in either version.
 
-use crate::ordinary::{self, Answer, Pages};
+use crate::ordinary::{self, Context, Pages};
 use tumashqin::{Edition, Memory, Refusal};
 
 /// By number; format has none, and stands at 0. Its argument is the edition.
-pub const NAMES: [&str; 13] = [
+pub const NAMES: [&str; 16] = [
     "format",
     "createPartition",
     "deletePartition",
@@ -18,30 +18,59 @@ pub const NAMES: [&str; 13] = [
     "leave",
     "load",
     "store",
+    "notify",
+    "dispatch",
+    "resume",
 ];
 
-/// The verdict: it judges and does no more. It has no number of document 01, and stands behind store.
-pub const JUDGE: Call = Call { number: 13, arguments: [0; 5] };
+/// The verdict: it judges and does no more. It is no call, and stands behind resume.
+pub const JUDGE: Call = Call { number: 16, arguments: [0; MOST_ARGUMENTS] };
 /// What it answers of sound memory.
-pub const JUDGED_SOUND: Answer = Ok(0);
+pub const JUDGED_SOUND: Answer = DONE;
 
-/// A call's number, 0 for format and 13 for the verdict, and its arguments; those that it does not have are 0.
+/// A call's word, or a resume's eleven.
+#[derive(Clone, Copy, PartialEq, Eq, Debug)]
+pub enum Words {
+    One(u32),
+    Eleven(Context),
+}
+
+impl Words {
+    /// The word of a call that is no resume.
+    pub fn word(self) -> u32 {
+        match self {
+            Words::One(word) => word,
+            Words::Eleven(_) => 0,
+        }
+    }
+}
+
+/// The words, or the number of the first refusal.
+pub type Answer = Result<Words, u32>;
+/// What most calls answer.
+pub const DONE: Answer = Ok(Words::One(0));
+
+/// Those of notify: target, eip, eflags and eight registers.
+pub const MOST_ARGUMENTS: usize = 11;
+pub const RESUME: u32 = 15;
+
+/// A call's number, 0 for format and 16 for the verdict, and its arguments; those that it does not have are 0.
 #[derive(Clone, Copy, Debug)]
 pub struct Call {
     pub number: u32,
-    pub arguments: [u32; 5],
+    pub arguments: [u32; MOST_ARGUMENTS],
 }
 
 impl Call {
     pub fn new(number: u32, given: &[u32]) -> Call {
-        let mut arguments = [0; 5];
+        let mut arguments = [0; MOST_ARGUMENTS];
         arguments[..given.len()].copy_from_slice(given);
         Call { number, arguments }
     }
 
     pub fn ordinary(&self, words: &mut [u32]) -> Answer {
         if self.number == 0 {
-            return ordinary::format(words, self.arguments[0]);
+            return ordinary::format(words, self.arguments[0]).map(Words::One);
         }
         match Pages::of(words)? {
             Pages::Small(pages) => self.on(ordinary::Memory::judged(pages)?),
@@ -52,7 +81,7 @@ impl Call {
     /// The ordinary version without the judgement, for memory that is known to be sound.
     pub fn trusting(&self, words: &mut [u32]) -> Answer {
         if self.number == 0 {
-            return ordinary::format(words, self.arguments[0]);
+            return ordinary::format(words, self.arguments[0]).map(Words::One);
         }
         match Pages::of(words)? {
             Pages::Small(pages) => self.on(ordinary::Memory::trusted(pages)),
@@ -61,9 +90,10 @@ impl Call {
     }
 
     fn on<const W: usize>(&self, mut m: ordinary::Memory<W>) -> Answer {
-        let [a, b, c, d, _] = self.arguments;
-        match self.number {
-            1 => ordinary::create_partition(&mut m, self.arguments),
+        let [a, b, c, d, e, ..] = self.arguments;
+        let [target, eip, eflags, registers @ ..] = self.arguments;
+        let answer = match self.number {
+            1 => ordinary::create_partition(&mut m, [a, b, c, d, e]),
             2 => ordinary::delete_partition(&mut m, a),
             3 => ordinary::add_vaddr(&mut m, a, b, c, d),
             4 => ordinary::remove_vaddr(&mut m, a, b),
@@ -75,18 +105,23 @@ impl Call {
             10 => ordinary::leave(&mut m),
             11 => ordinary::load(&m, a),
             12 => ordinary::store(&mut m, a, b),
-            _ => JUDGED_SOUND,
-        }
+            13 => ordinary::notify(&mut m, target, eip, eflags, registers),
+            14 => ordinary::dispatch(&mut m, target),
+            RESUME => return ordinary::resume(&mut m, target, b).map(Words::Eleven),
+            _ => return JUDGED_SOUND,
+        };
+        answer.map(Words::One)
     }
 
     pub fn proved(&self, words: &mut [u32]) -> Answer {
-        let [a, b, c, d, _] = self.arguments;
+        let [a, b, c, d, e, ..] = self.arguments;
+        let [target, eip, eflags, registers @ ..] = self.arguments;
         let mut memory = match self.number {
-            0 => return Memory::format(words, edition(a)).map(|_| 0).map_err(Refusal::number),
+            0 => return Memory::format(words, edition(a)).map(|_| Words::One(0)).map_err(Refusal::number),
             _ => Memory::over(words),
         };
         let answer = match self.number {
-            1 => memory.create_partition(self.arguments),
+            1 => memory.create_partition([a, b, c, d, e]),
             2 => memory.delete_partition(a),
             3 => memory.add_vaddr(a, b, c, d),
             4 => memory.remove_vaddr(a, b),
@@ -98,9 +133,14 @@ impl Call {
             10 => memory.leave(),
             11 => memory.load(a),
             12 => memory.store(a, b),
+            13 => memory.notify(target, &tumashqin::Context { eip, pipflags: 0, eflags, registers }),
+            14 => memory.dispatch(target),
+            RESUME => {
+                return memory.resume(target, b).map(|words| Words::Eleven(words.into())).map_err(Refusal::number)
+            }
             _ => memory.verdict().map(|()| 0),
         };
-        answer.map_err(Refusal::number)
+        answer.map(Words::One).map_err(Refusal::number)
     }
 }
 

@@ -5,7 +5,7 @@ use crate::measure::rough;
 use second::damage::wide_damage;
 use second::geometry::{Edition, PPage, VPage};
 use second::memory::{
-    named_page, set_table_word, set_word, start, word, Partition, CURRENT, PARENT, PRESENT, ROOT_PAGE,
+    named_page, set_table_word, set_word, start, word, Partition, CURRENT, FLAG, PARENT, PRESENT, ROOT_PAGE,
 };
 use second::random::Random;
 use second::tree::{tree, Node};
@@ -37,6 +37,7 @@ pub fn damaged(sound: &[u32]) -> Vec<Damaged> {
     let mut all = vec![
         Damaged { name: "current outside the tree", words: with(sound, |m| m[CURRENT] = last_page) },
         Damaged { name: "last table word", words: with(sound, last_table_word) },
+        Damaged { name: "last partition's flag is 2", words: with(sound, last_flag) },
         Damaged { name: "a child is its own ancestor", words: with(sound, cycle) },
         Damaged { name: "last partition lends one page often", words: with(sound, often) },
         Damaged { name: "every page a child", words: all_children(edition, pages) },
@@ -86,6 +87,13 @@ fn last_table_word(m: &mut [u32]) {
         let edition = Edition::of(m);
         let [_, _, shadow2] = tables(m, &node.partition, last_index(m, &node.partition));
         m[start(m, shadow2) + edition.page_words() - 1] ^= edition.page_bytes();
+    }
+}
+
+/// The flag of the last partition, which may be the root.
+pub fn last_flag(m: &mut [u32]) {
+    if let Some(node) = last_node(m, |_| true) {
+        set_word(m, node.partition.descriptor, FLAG, 2);
     }
 }
 

@@ -1,6 +1,7 @@
 //! The library's functions by their addresses, called with what they take and nothing of Rust's in between.
 
-use crate::call::Call;
+use crate::call::{Answer, Call, Words, RESUME};
+use crate::ordinary::CONTEXT_WORDS;
 use crate::painted::{self, Called, Function};
 
 extern "C" {
@@ -17,6 +18,9 @@ extern "C" {
     fn tumashqin_leave();
     fn tumashqin_load();
     fn tumashqin_store();
+    fn tumashqin_notify();
+    fn tumashqin_dispatch();
+    fn tumashqin_resume();
     fn tumashqin_verdict();
     fn tumashqin_write_record();
     fn tumashqin_record_refusal();
@@ -25,8 +29,8 @@ extern "C" {
     fn tumashqin_record_revision_length();
 }
 
-/// By number; format stands at 0, and the verdict behind store.
-const CALLS: [Function; 14] = [
+/// By number; format stands at 0, and the verdict behind resume.
+const CALLS: [Function; 17] = [
     tumashqin_format,
     tumashqin_create_partition,
     tumashqin_delete_partition,
@@ -40,6 +44,9 @@ const CALLS: [Function; 14] = [
     tumashqin_leave,
     tumashqin_load,
     tumashqin_store,
+    tumashqin_notify,
+    tumashqin_dispatch,
+    tumashqin_resume,
     tumashqin_verdict,
 ];
 
@@ -51,40 +58,54 @@ pub const READERS: [(&str, Function); 4] = [
     ("record revision", tumashqin_record_revision_length),
 ];
 
-/// A call; its answer is the refusal, or the word where there is none.
-pub fn call(call: &Call, words: &mut [u32]) -> (Result<u32, u32>, usize) {
-    let [a, b, c, d, e] = call.arguments.map(|argument| argument as usize);
-    // The words are lent for the call alone, and each call takes words and any numbers.
-    let Called { answer, stack } = unsafe {
-        painted::call(CALLS[call.number as usize], [words.as_mut_ptr() as usize, words.len(), a, b, c, d, e])
-    };
+/// A call; its answer is the refusal, or the word or words where there is none. A resume writes its words to a slice of its own.
+pub fn call(call: &Call, words: &mut [u32]) -> (Answer, usize) {
+    let mut out = [7; CONTEXT_WORDS];
+    let mut arguments = [0; painted::ARGUMENTS];
+    arguments[..2].copy_from_slice(&[words.as_mut_ptr() as usize, words.len()]);
+    arguments[2..].copy_from_slice(&call.arguments.map(|argument| argument as usize));
+    if call.number == RESUME {
+        arguments[4..6].copy_from_slice(&[out.as_mut_ptr() as usize, out.len()]);
+    }
+    // The slices are lent for the call alone, and each call takes words and any numbers.
+    let Called { answer, stack } = unsafe { painted::call(CALLS[call.number as usize], arguments) };
     let (refusal, word) = match call.number {
-        0 | 13 => (answer as u32, 0),
+        0 | 16 => (answer as u32, 0),
         _ => ((answer >> 32) as u32, answer as u32),
     };
-    (if refusal == 0 { Ok(word) } else { Err(refusal) }, stack)
+    if call.number == RESUME {
+        assert_eq!(word, 0);
+        assert!(refusal == 0 || out == [0; CONTEXT_WORDS], "words beside a refusal: {out:?}");
+    }
+    let answer = match (refusal, call.number) {
+        (0, RESUME) => Ok(Words::Eleven(out)),
+        (0, _) => Ok(Words::One(word)),
+        _ => Err(refusal),
+    };
+    (answer, stack)
 }
 
 /// Writes the record; its answer is 0 or the refusal.
 pub fn write_record(words: &[u32], revision: &[u8], out: &mut [u8]) -> (u32, usize) {
-    let slices = [
+    let mut arguments = [0; painted::ARGUMENTS];
+    arguments[..6].copy_from_slice(&[
         words.as_ptr() as usize,
         words.len(),
         revision.as_ptr() as usize,
         revision.len(),
         out.as_mut_ptr() as usize,
         out.len(),
-        0,
-    ];
+    ]);
     // The three slices are lent for the call alone, and out is no part of the others.
-    let Called { answer, stack } = unsafe { painted::call(tumashqin_write_record, slices) };
+    let Called { answer, stack } = unsafe { painted::call(tumashqin_write_record, arguments) };
     (answer as u32, stack)
 }
 
 /// One of the record's readers.
 pub fn read(reader: Function, bytes: &[u8]) -> (u32, usize) {
+    let mut arguments = [0; painted::ARGUMENTS];
+    arguments[..2].copy_from_slice(&[bytes.as_ptr() as usize, bytes.len()]);
     // The bytes are lent for the call alone, and a reader takes any bytes.
-    let Called { answer, stack } =
-        unsafe { painted::call(reader, [bytes.as_ptr() as usize, bytes.len(), 0, 0, 0, 0, 0]) };
+    let Called { answer, stack } = unsafe { painted::call(reader, arguments) };
     (answer as u32, stack)
 }

@@ -1,8 +1,7 @@
 //! Timing of calls: the least of many single calls, the versions in turn, so that other work on the machine falls out.
 
 use crate::builder::Step;
-use crate::call::{Call, JUDGE};
-use crate::ordinary::Answer;
+use crate::call::{Answer, Call, JUDGE};
 use crate::patch::Patch;
 use std::hint::black_box;
 use std::time::{Duration, Instant};

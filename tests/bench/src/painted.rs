@@ -5,8 +5,9 @@ use std::arch::asm;
 /// A function of the library, by its address.
 pub type Function = unsafe extern "C" fn();
 
-/// What is passed to it: six in registers, and the last on the stack. Those that it does not take are 0.
-pub type Arguments = [usize; 7];
+/// How many numbers are passed to it: six in registers, and the others on the stack. Those that it does not take are 0.
+pub const ARGUMENTS: usize = 13;
+const IN_REGISTERS: usize = 6;
 
 /// How far down the stack is painted, in pairs of words; no call may come near its end.
 const PAIRS: usize = 4096;
@@ -28,10 +29,11 @@ pub struct Called {
 /// # Safety
 ///
 /// These are arguments that the function may be called with.
-pub unsafe fn call(function: Function, arguments: Arguments) -> Called {
-    let mut stack = vec![Pair([PAINT; 2]); PAIRS + 1];
-    let [a, b, c, d, e, f, last] = arguments;
-    stack[PAIRS] = Pair([last as u64, 0]);
+pub unsafe fn call(function: Function, arguments: [usize; ARGUMENTS]) -> Called {
+    let mut stack = vec![Pair([PAINT; 2]); PAIRS];
+    let pair = |pair: &[usize]| Pair([pair[0] as u64, pair.get(1).map_or(0, |&second| second as u64)]);
+    stack.extend(arguments[IN_REGISTERS..].chunks(2).map(pair));
+    let [a, b, c, d, e, f, ..] = arguments;
     let answer;
     asm!(
         "xchg rsp, r12",

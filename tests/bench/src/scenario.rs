@@ -20,6 +20,8 @@ pub struct Scenario {
     passing: Vec<Step>,
     /// Calls that are refused after the judgement.
     pub refused: Vec<Step>,
+    /// A call for each of builder::WAYS, on the whole tree; none where the caller or its child has no slot page.
+    pub ways: Vec<Step>,
     /// The memory when the tree was whole.
     pub whole: Vec<u32>,
 }
@@ -41,12 +43,12 @@ impl Scenario {
     /// The last child of the tree ends; without one the tree is the root alone.
     fn of(name: &'static str, mut built: Builder, child: Option<u32>) -> Scenario {
         let whole = built.memory.clone();
-        let mut refused = Vec::new();
+        let (mut refused, mut ways) = (Vec::new(), Vec::new());
         if let Some(child) = child {
-            refused = built.refused(child);
+            (refused, ways) = (built.refused(child), built.ways(child));
             built.finish(child);
         }
-        Scenario { name, edition: built.edition, passing: built.last_calls(&whole), refused, whole }
+        Scenario { name, edition: built.edition, passing: built.last_calls(&whole), refused, ways, whole }
     }
 }
 
@@ -156,19 +158,30 @@ pub fn broad_falling(edition: Edition, pages: usize) -> Scenario {
     children("broad, falling", Builder::new(edition, pages), 1, &[1, 0])
 }
 
+/// One three and a slot page each.
+pub fn broad_slots(edition: Edition, pages: usize) -> Scenario {
+    let built = Builder::with_slots(edition, pages);
+    let slot_page = built.slot_page();
+    children("broad, slot pages", built, 1, &[slot_page])
+}
+
 /// Children without tables.
 pub fn bare(edition: Edition, pages: usize) -> Scenario {
     children("bare", Builder::new(edition, pages), 0, &[])
 }
 
-/// A chain down to this level, one three each, on which every call is made: the parent of the last partition is the caller, and has lent it a page. Where
-/// the root is alone it is the caller, and has no child to name.
+/// A chain down to this level, one three each, on which every call is made: the parent of the last partition is the caller, and has lent it a page, its slot
+/// page; the caller has one, too. Where the root is alone it is the caller, and has no child to name.
 pub fn down_to(level: usize, edition: Edition, pages: usize) -> Scenario {
-    let mut built = Builder::new(edition, pages);
-    for _ in 1..level {
+    let mut built = Builder::with_slots(edition, pages);
+    let slot_page = built.slot_page();
+    for above in (1..level).rev() {
         let child = built.create();
         built.prepare(child, 1);
-        let lent = built.left().min(edition.page_words());
+        if above == 1 {
+            built.lend(child, slot_page);
+        }
+        let lent = built.left().min(slot_page);
         (0..lent).for_each(|k| built.lend(child, k));
         built.enter(child, lent);
     }
@@ -177,12 +190,12 @@ pub fn down_to(level: usize, edition: Edition, pages: usize) -> Scenario {
         let (whole, refused) = (built.memory.clone(), built.refused(built.nowhere()));
         built.access();
         built.create();
-        return Scenario { name, edition, passing: built.last_calls(&whole), refused, whole };
+        return Scenario { name, edition, passing: built.last_calls(&whole), refused, ways: Vec::new(), whole };
     }
     let child = built.create();
     built.prepare(child, 1);
-    built.lend(child, 0);
-    built.lend_again(child, 0);
+    built.lend(child, slot_page);
+    built.lend_again(child, slot_page);
     built.create();
     Scenario::of(name, built, Some(child))
 }

@@ -1,9 +1,10 @@
 //! The ordinary version and the proved kernel do what the independent program of tests/second does: on guided random calls, and on damaged memories.
 
-use bench::call::{Call, JUDGE, JUDGED_SOUND};
+use bench::builder::WAYS;
+use bench::call::{Answer, Call, Words, DONE, JUDGE, JUDGED_SOUND, NAMES};
 use bench::library;
-use bench::scenario::{lent_pages, LENT};
-use second::calls::{call, ARGUMENTS};
+use bench::scenario::{down_to, lent_pages, LENT, MOST_DEPTH};
+use second::calls::{call, perform, Said, ARGUMENTS};
 use second::damage::wide_damage;
 use second::geometry::{Edition, EDITION, EDITIONS, LARGE, SMALL, WRITE};
 use second::make::make;
@@ -35,10 +36,27 @@ fn kind(own: &Mapping) -> usize {
     }
 }
 
-/// Guided random calls on all three, with every word compared after each; then what the caller does with the memory. Answers how many lent pages of each kind
-/// came back.
-fn all(edition: Edition, seed: u32, calls: usize, pages: usize, mut then: impl FnMut(&[u32])) -> [usize; 3] {
-    let mut returned = [0; 3];
+/// What the independent program says: a resume has eleven words besides, zeros where it is refused.
+fn answer_of(Said { answer, context }: Said) -> Answer {
+    match context {
+        None => answer.map(Words::One),
+        Some(words) => {
+            assert!(answer == Ok(0) || answer.is_err() && words.iter().all(|&word| word == 0), "{answer:?} {words:?}");
+            answer.map(|_| Words::Eleven(words))
+        }
+    }
+}
+
+/// What guided calls met: how many lent pages of each kind came back, and how many calls of each number passed.
+#[derive(Default)]
+struct Met {
+    returned: [usize; 3],
+    passed: [usize; NAMES.len()],
+}
+
+/// Guided random calls on all three, with every word compared after each; then what the caller does with the memory.
+fn all(edition: Edition, seed: u32, calls: usize, pages: usize, mut then: impl FnMut(&[u32])) -> Met {
+    let mut met = Met::default();
     let mut ordinary = vec![0; edition.page_words() * pages];
     let (mut proved, mut other) = (ordinary.clone(), ordinary.clone());
     for line in std::iter::once(vec![0, edition.number]).chain(make(edition, seed, calls, pages)) {
@@ -46,25 +64,48 @@ fn all(edition: Edition, seed: u32, calls: usize, pages: usize, mut then: impl F
         let lent = if made.number == 2 { lent_pages(&ordinary, line[1]) } else { Vec::new() };
         let answer = made.ordinary(&mut ordinary);
         assert_eq!(answer, made.proved(&mut proved), "{line:?}");
-        assert_eq!(Some(answer), call(&mut other, line[0], &line[1..]), "{line:?}");
+        assert_eq!(Some(answer), perform(&mut other, line[0], &line[1..]).map(answer_of), "{line:?}");
         assert!(ordinary == proved, "{line:?}");
         assert!(ordinary == other, "{line:?}");
         then(&ordinary);
         if answer.is_ok() {
-            lent.iter().for_each(|own| returned[kind(own)] += 1);
+            met.passed[made.number as usize] += 1;
+            lent.iter().for_each(|own| met.returned[kind(own)] += 1);
         }
     }
-    returned
+    met
 }
 
 #[test]
 fn calls() {
-    let mut returned = [0; 3];
+    let (mut returned, mut passed) = ([0; 3], [0; NAMES.len()]);
     for ((edition, pages, fewer), seed) in SIZES.into_iter().zip(1..) {
-        let counts = all(edition, seed, 6000 / fewer, pages, |_| ());
-        returned.iter_mut().zip(counts).for_each(|(sum, count)| *sum += count);
+        let met = all(edition, seed, 6000 / fewer, pages, |_| ());
+        returned.iter_mut().zip(met.returned).for_each(|(sum, count)| *sum += count);
+        passed.iter_mut().zip(met.passed).for_each(|(sum, count)| *sum += count);
     }
     assert!(returned.iter().all(|&count| count > 50), "{returned:?}");
+    // Format is made once for each size, and few contexts stand ready to be resumed.
+    assert!(passed[1..15].iter().all(|&count| count > 50) && passed[15] > 10, "{passed:?}");
+}
+
+/// Every way of notify, dispatch and resume.
+#[test]
+fn contexts() {
+    for (level, pages) in [(1, 32), (2, 96), (MOST_DEPTH, 96)] {
+        let scenario = down_to(level, SMALL, pages);
+        assert_eq!(scenario.ways.len(), WAYS.len());
+        for (step, way) in scenario.ways.iter().zip(WAYS) {
+            let before = step.memory(&scenario.whole);
+            let [mut ordinary, mut proved, mut other] = [(); 3].map(|()| before.clone());
+            let arguments = &step.call.arguments[..ARGUMENTS[step.call.number as usize - 1]];
+            let answer = step.call.ordinary(&mut ordinary);
+            assert!(answer.is_ok(), "{way}: {answer:?}");
+            assert_eq!(answer, step.call.proved(&mut proved), "{way}");
+            assert_eq!(Some(answer), perform(&mut other, step.call.number, arguments).map(answer_of), "{way}");
+            assert!(ordinary == proved && ordinary == other, "{way}");
+        }
+    }
 }
 
 /// The end of a child to which many pages were lent.
@@ -74,8 +115,8 @@ fn many_lent_pages() {
         let step = scenario.last(2).expect("a child that is ended");
         let before = step.memory(&scenario.whole);
         let [mut ordinary, mut proved, mut other] = [(); 3].map(|()| before.clone());
-        assert_eq!(step.call.ordinary(&mut ordinary), Ok(0), "{}", scenario.title());
-        assert_eq!(step.call.proved(&mut proved), Ok(0), "{}", scenario.title());
+        assert_eq!(step.call.ordinary(&mut ordinary), DONE, "{}", scenario.title());
+        assert_eq!(step.call.proved(&mut proved), DONE, "{}", scenario.title());
         assert_eq!(call(&mut other, 2, &step.call.arguments[..1]), Some(Ok(0)), "{}", scenario.title());
         assert!(ordinary == proved, "{}", scenario.title());
         assert!(ordinary == other, "{}", scenario.title());
@@ -131,7 +172,7 @@ fn lengths_and_editions_that_are_not_permitted() {
 
 fn refused(edition: u32, memory: Vec<u32>) {
     let mut words = memory.clone();
-    for number in 0..=12 {
+    for number in 0..NAMES.len() {
         let arguments = vec![edition; if number == 0 { 1 } else { ARGUMENTS[number - 1] }];
         let (call, refusal) = (Call::new(number as u32, &arguments), if number == 0 { 2 } else { 1 });
         assert_eq!(call.ordinary(&mut words), Err(refusal));

@@ -8,7 +8,7 @@ fn tables() {
     let report = Report::measure(Duration::ZERO);
     assert_eq!(report.calls.len(), 18);
     for table in &report.calls {
-        assert_eq!(table.rows.len(), 14, "{}", table.title);
+        assert_eq!(table.rows.len(), 17, "{}", table.title);
         for row in &table.rows {
             assert!(!row[1].is_empty() || !row[5].is_empty(), "{}: {}", table.title, row[0]);
         }
@@ -26,6 +26,10 @@ fn tables() {
         assert_ne!(lent, "0", "{title}");
         assert_eq!(wiped, if title.ends_with("read alone") { "0" } else { lent }, "{title}");
     }
+    let contexts: Vec<_> = report.short.iter().filter(|table| table.title.starts_with("notify")).collect();
+    assert_eq!(contexts.len(), 1);
+    // The judge, seven ways, and three calls on damaged memory; five trees.
+    assert_eq!((contexts[0].rows.len(), contexts[0].head.len()), (11, 6));
     for wiping in report.short.iter().filter(|table| table.title.starts_with("Wiping")) {
         for row in &wiping.rows {
             assert!([&row[4], &row[8]].iter().all(|ratio| !ratio.starts_with('-')), "{row:?}");

@@ -1,7 +1,10 @@
 //! Compares the proved kernel, by its C interface, with the independent program of tests/second.
 
 mod both;
+mod context_ways;
+mod flags;
 mod memories;
+mod outs;
 mod pair_ways;
 mod paired;
 mod pairs;

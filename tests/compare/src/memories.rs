@@ -17,15 +17,16 @@ fn judge(mem: &[u32], random: &mut Random, tally: &mut Tally) -> Result<(), Stri
     let (mut proved, mut second) = (mem.to_vec(), mem.to_vec());
     let sentences = broken(mem);
     tally.of(mem).judged(&sentences);
+    tally.flags.count(mem, &sentences);
     let mut result = verdict(mem, tally);
     if sentences.is_empty() {
-        guide(&mut second, random, 12, |line, answer, after| {
+        guide(&mut second, random, 12, |line, said, after| {
             if result.is_ok() {
-                result = follow(&mut proved, line, answer, after, None, tally);
+                result = follow(&mut proved, line, said, after, None, tally);
             }
         });
     } else if result.is_ok() {
-        let number = 1 + random.below(12);
+        let number = 1 + random.below(ARGUMENTS.len());
         result = perform(&mut proved, &mut second, &any_call(mem, number, random), tally);
     }
     if result.is_ok() && random.once_in(8) {
@@ -143,7 +144,7 @@ pub fn each_call(mut words: Vec<u32>, random: &mut Random, tally: &mut Tally) ->
     let mut proved = words.clone();
     let mut result = verdict(&words, tally);
     let formats = [2 + random.below(9) as u32, 0, 1].map(|choice| vec![0, choice]);
-    let mut calls = || -> Vec<_> { (1..=12).map(|number| any_call(&words, number, random)).collect() };
+    let mut calls = || -> Vec<_> { (1..=ARGUMENTS.len()).map(|number| any_call(&words, number, random)).collect() };
     let lines = [calls(), formats.to_vec(), calls()].concat();
     for line in lines {
         result = result.and_then(|()| perform(&mut proved, &mut words, &line, tally));

@@ -1,8 +1,9 @@
 //! What differs between two memories that show a partition B the same, and what a call meets there that the table of calls and answers does not tell.
 
 use second::calls::Answer;
+use second::contexts::slot_page;
 use second::geometry::*;
-use second::memory::{words_of, Mapping, Partition, ACCESSIBLE};
+use second::memory::{word, words_of, Mapping, Partition, ACCESSIBLE, FLAG, ROOT_PAGE};
 use second::neighbours::{differences, Around};
 use second::refusal::*;
 
@@ -12,13 +13,13 @@ pub struct Two<'a> {
     pub around: [&'a Around; 2],
 }
 
-/// A call in both, with its answer; whether B is left by it.
+/// A call in both, with its answers; in which of them B is left by it.
 pub struct Call<'a> {
     pub line: &'a [u32],
-    pub answer: Answer,
+    pub answers: [Answer; 2],
     pub before: Two<'a>,
     pub after: [&'a [u32]; 2],
-    pub leaves: bool,
+    pub leaves: [bool; 2],
 }
 
 type Start = (&'static str, fn(&Two) -> bool);
@@ -64,8 +65,47 @@ pub const CALLS: [Meeting; 11] = [
     ("an accessible bit of an ancestor set", |c| c.writes_outside(|word| word & ACCESSIBLE == 0)),
     ("enter ok: a child of B", |c| c.ok(9) && c.by_own()),
     ("leave ok: a child of B", |c| c.ok(10) && !c.by_own() && c.own_follows()),
-    ("leave ok: B, the last call of the run", |c| c.leaves),
+    ("leave ok: B, the last call of the run", |c| c.ok(10) && c.leaves[0]),
     ("leave no 14: B, the root", |c| c.no(10, ROOT)),
+];
+
+/// What differs at the start, with small pages alone.
+pub const CONTEXT_STARTS: [Start; 2] = [
+    ("differs: the flag of a partition above B", |t| t.above_flags()),
+    ("differs: whether the parent's slot page is in its hand with read and write", |t| {
+        t.above(0, |mem, parent| slot_page(mem, parent).is_ok())
+    }),
+];
+
+/// What a call is, or meets, with small pages alone.
+pub const CONTEXT_CALLS: [Meeting; 17] = [
+    ("notify ok: B, to a child", |c| c.ok(13) && c.by_own() && !c.leaves[0]),
+    ("notify ok: a child of B, to B", |c| c.ok(13) && !c.by_own() && c.own_follows()),
+    ("notify ok: B, to its parent, the last call of the run", |c| c.ok(13) && c.leaves == [true; 2]),
+    ("notify no 20: B, by its own slot page", |c| c.no(13, SLOT_PAGE) && c.by_own()),
+    ("dispatch ok: B, to a child", |c| c.ok(14) && c.by_own() && !c.leaves[0]),
+    ("dispatch ok: a child of B, to B", |c| c.ok(14) && !c.by_own() && c.own_follows()),
+    ("dispatch ok: B, to its parent, the last call of the run", |c| c.ok(14) && c.leaves == [true; 2]),
+    ("resume ok: B, of a child's slot", |c| c.ok(15) && c.by_own() && !c.leaves[0]),
+    ("resume ok: a child of B, of B's slot", |c| c.ok(15) && !c.by_own() && c.own_follows()),
+    ("resume no 20: a child of B, by B's slot page", |c| {
+        c.no(15, SLOT_PAGE) && c.line[1] == 0 && !c.by_own() && c.parent_is_own()
+    }),
+    ("resume no 21: B, of its parent's slot", |c| c.no(15, SLOT) && c.by_own() && c.line[1] == 0),
+    ("resume no 20: B, by its parent's slot page, in both memories", |c| {
+        c.no(15, SLOT_PAGE) && c.answers[1] == Err(SLOT_PAGE) && c.by_own() && c.line[1] == 0
+    }),
+    ("resume no 20: B, in one memory only, and in the other B is left: the last call of the run", |c| c.parts()),
+    ("resume ok: B, of its parent's slot, the last call of the run", |c| c.own_resume() && c.leaves == [true; 2]),
+    ("resume ok: B, the parent in one memory and the root in the other: the last call of the run", |c| {
+        c.own_resume() && c.leaves == [true; 2] && c.leads_to(0) != c.leads_to(1)
+    }),
+    ("resume ok: B, whose parent is not the root, and the root is current in both: the last call of the run", |c| {
+        c.own_resume() && c.leaves == [true; 2] && [0, 1].iter().all(|&k| c.yields(k))
+    }),
+    ("resume ok: below B, and the root is current: the last call of the run", |c| {
+        c.ok(15) && !c.by_own() && c.leaves == [true; 2]
+    }),
 ];
 
 impl Two<'_> {
@@ -77,6 +117,13 @@ impl Two<'_> {
     fn lent<T: PartialEq>(&self, of: impl Fn(&[(VPage, Mapping)]) -> T) -> bool {
         let mappings = &self.around[0].own().mappings;
         mappings.iter().any(|&(v, _)| self.differs(|mem, around| of(&around.lenders(mem, v))))
+    }
+
+    fn above_flags(&self) -> bool {
+        let flags = |mem: &[u32], around: &Around| -> Vec<u32> {
+            around.ancestors().map(|node| word(mem, node.partition.descriptor, FLAG)).collect()
+        };
+        self.differs(flags)
     }
 
     /// Of the ancestor that is so many above the parent; the root's are as format leaves them.
@@ -95,11 +142,38 @@ fn kernel_pages(mem: &[u32], around: &Around) -> Vec<PPage> {
 
 impl Call<'_> {
     fn ok(&self, number: u32) -> bool {
-        self.line[0] == number && self.answer.is_ok()
+        self.line[0] == number && self.answers[0].is_ok()
     }
 
     fn no(&self, number: u32, refusal: u32) -> bool {
-        self.line[0] == number && self.answer == Err(refusal)
+        self.line[0] == number && self.answers[0] == Err(refusal)
+    }
+
+    /// B's own resume of its parent's slot: the words that decide it are not shown to B.
+    pub fn own_resume(&self) -> bool {
+        self.line == [15, 0, 2] && self.by_own()
+    }
+
+    /// Refused with 20 in one memory, while the other leaves B.
+    fn parts(&self) -> bool {
+        self.own_resume() && self.leaves[0] != self.leaves[1] && self.answers.contains(&Err(SLOT_PAGE))
+    }
+
+    fn leads_to(&self, k: usize) -> PPage {
+        Partition::current(self.after[k]).descriptor
+    }
+
+    /// The root is current, and it is not B's parent.
+    fn yields(&self, k: usize) -> bool {
+        self.leads_to(k) == ROOT_PAGE && self.before.around[k].own().depth > 1
+    }
+
+    /// Whether B is the caller's parent.
+    fn parent_is_own(&self) -> bool {
+        let (mem, around) = (self.before.mem[0], self.before.around[0]);
+        let caller = Partition::current(mem).descriptor;
+        let node = around.nodes.iter().find(|node| node.partition.descriptor == caller);
+        node.and_then(|node| node.parent).is_some_and(|(place, _)| place == around.place)
     }
 
     fn own(&self) -> Partition {

@@ -1,12 +1,13 @@
 //! What occurred in pairs of memories that show a partition B the same.
 
-use crate::pair_ways::{Call, Two, CALLS, STARTS};
+use crate::pair_ways::{Call, Two, CALLS, CONTEXT_CALLS, CONTEXT_STARTS, STARTS};
 use second::cover::Cover;
-use second::geometry::MOST_DEPTH;
+use second::geometry::{Edition, MOST_DEPTH, SMALL};
 use second::pairs::{Kind, KINDS};
-use std::fmt;
 
-const WAYS: usize = STARTS.len() + CALLS.len();
+/// The ways of both editions stand first, then those of small pages alone.
+const BOTH: usize = STARTS.len() + CALLS.len();
+const WAYS: usize = BOTH + CONTEXT_STARTS.len() + CONTEXT_CALLS.len();
 
 /// What occurred in one pair.
 pub struct Met {
@@ -24,13 +25,16 @@ impl Met {
     pub fn of(kind: Kind, words: usize, two: &Two) -> Met {
         let mut ways = [false; WAYS];
         ways.iter_mut().zip(STARTS).for_each(|(met, (_, holds))| *met = holds(two));
+        ways[BOTH..].iter_mut().zip(CONTEXT_STARTS).for_each(|(met, (_, holds))| *met = holds(two));
         Met { kind, depth: two.around[0].own().depth, words: [words, 0], ways, cover: Cover::default() }
     }
 
     pub fn call(&mut self, call: &Call) {
-        self.cover.count(call.line[0] as usize, call.answer);
-        let calls = self.ways[STARTS.len()..].iter_mut().zip(CALLS);
-        calls.for_each(|(met, (_, holds))| *met = *met || holds(call));
+        self.cover.count(call.line[0] as usize, call.answers[0]);
+        for (place, ways) in [(STARTS.len(), &CALLS[..]), (BOTH + CONTEXT_STARTS.len(), &CONTEXT_CALLS[..])] {
+            let calls = self.ways[place..].iter_mut().zip(ways);
+            calls.for_each(|(met, (_, holds))| *met = *met || holds(call));
+        }
     }
 
     pub fn end(&mut self, words: usize) {
@@ -50,12 +54,21 @@ pub struct Paired {
     equal: u64,
     other_calls: u64,
     /// Pairs by what occurred in them.
-    ways: [u64; WAYS],
+    ways: Counts,
+}
+
+/// By way.
+struct Counts([u64; WAYS]);
+
+impl Default for Counts {
+    fn default() -> Counts {
+        Counts([0; WAYS])
+    }
 }
 
 impl Paired {
     pub fn count(&mut self, met: &Met) {
-        self.ways.iter_mut().zip(met.ways).for_each(|(own, met)| *own += u64::from(met));
+        self.ways.0.iter_mut().zip(met.ways).for_each(|(own, met)| *own += u64::from(met));
         if met.words[0] > 0 {
             self.differ[met.kind as usize][met.depth] += 1;
             self.cover.add(&met.cover);
@@ -69,7 +82,7 @@ impl Paired {
     pub fn add(&mut self, other: &Paired) {
         let differ = self.differ.iter_mut().flatten().zip(other.differ.iter().flatten());
         let words = self.words.iter_mut().zip(&other.words);
-        let ways = self.ways.iter_mut().zip(&other.ways);
+        let ways = self.ways.0.iter_mut().zip(&other.ways.0);
         differ.chain(words).chain(ways).for_each(|(own, other)| *own += other);
         self.cover.add(&other.cover);
         self.root += other.root;
@@ -78,43 +91,50 @@ impl Paired {
     }
 
     /// What has to occur and did not: each kind at each depth, each call with each answer that it can have there, and the ways.
-    pub fn missing(&self) -> Vec<String> {
-        let mut missing = self.cover.missing();
+    pub fn missing(&self, edition: Edition) -> Vec<String> {
+        let mut missing = self.cover.missing(&[edition]);
         missing.retain(|answer| !["format", "record"].iter().any(|row| answer.starts_with(row)));
         // Both stay sound; and only the root is refused with 14, to which everything is shown.
-        missing.retain(|answer| !answer.ends_with(" no 1") && answer != "leave no 14");
+        missing.retain(|answer| !answer.ends_with(" no 1") && !answer.ends_with(" no 14"));
         for (kind, depths) in KINDS.iter().zip(&self.differ) {
             let none = (1..=MOST_DEPTH).filter(|&depth| depths[depth] == 0);
             missing.extend(none.map(|depth| format!("{kind:?}, B {depth} below the root")));
         }
-        missing.extend(self.each().filter(|(_, pairs)| *pairs == 0).map(|(name, _)| name.to_string()));
+        missing.extend(self.ways_of(edition).filter(|(_, pairs)| *pairs == 0).map(|(name, _)| name.to_string()));
         missing.into_iter().map(|what| format!("pairs: {what}")).collect()
     }
 
     fn each(&self) -> impl Iterator<Item = (&'static str, u64)> + '_ {
         let names = STARTS.iter().map(|way| way.0).chain(CALLS.iter().map(|way| way.0));
-        names.zip(self.ways)
+        let contexts = CONTEXT_STARTS.iter().map(|way| way.0).chain(CONTEXT_CALLS.iter().map(|way| way.0));
+        names.chain(contexts).zip(self.ways.0)
     }
-}
 
-impl fmt::Display for Paired {
-    fn fmt(&self, f: &mut fmt::Formatter) -> fmt::Result {
+    /// The tables; with large pages without the ways that only small ones have.
+    pub fn text(&self, edition: Edition) -> String {
         let pairs: u64 = self.differ.iter().flatten().sum();
         let [start, end] = self.words;
-        writeln!(f, "{pairs} pairs differ, and {} calls are made in both memories of each:", self.cover.calls())?;
-        writeln!(f, "all answers are equal, and all words that are shown; {start} words differ before, {end} after")?;
-        writeln!(
-            f,
-            "{} pairs with B the root, {} more without a difference: {} calls",
-            self.root, self.equal, self.other_calls
-        )?;
-        write!(f, "{:15}", "depth of B")?;
-        (1..=MOST_DEPTH).try_for_each(|depth| write!(f, "{depth:>7}"))?;
+        let mut text = format!(
+            "{pairs} pairs differ, and {} calls are made in both memories of each:\n\
+            all answers are equal, and all words that are shown; {start} words differ before, {end} after\n\
+            {} pairs with B the root, {} more without a difference: {} calls\n{:15}",
+            self.cover.calls(),
+            self.root,
+            self.equal,
+            self.other_calls,
+            "depth of B"
+        );
+        (1..=MOST_DEPTH).for_each(|depth| text += &format!("{depth:>7}"));
         for (kind, depths) in KINDS.iter().zip(&self.differ) {
-            write!(f, "\n{:15}", format!("{kind:?}"))?;
-            depths[1..].iter().try_for_each(|pairs| write!(f, "{pairs:>7}"))?;
+            text += &format!("\n{:15}", format!("{kind:?}"));
+            depths[1..].iter().for_each(|pairs| text += &format!("{pairs:>7}"));
         }
-        writeln!(f, "\n{}", self.cover)?;
-        self.each().try_for_each(|(name, pairs)| writeln!(f, "{pairs:9}  {name}"))
+        text += &format!("\n{}\n", self.cover.table(&[edition]));
+        self.ways_of(edition).for_each(|(name, pairs)| text += &format!("{pairs:9}  {name}\n"));
+        text
+    }
+
+    fn ways_of(&self, edition: Edition) -> impl Iterator<Item = (&'static str, u64)> + '_ {
+        self.each().take(if edition == SMALL { WAYS } else { BOTH })
     }
 }

@@ -5,11 +5,11 @@ use crate::both::{same, shown};
 use crate::pair_ways::{Call, Two};
 use crate::paired::Met;
 use crate::tally::Tally;
-use second::calls::{call, Answer};
+use second::calls::{self, Said};
 use second::cover::ROWS;
 use second::geometry::{Edition, PPage, MOST_DEPTH, SMALL};
 use second::make::Work;
-use second::memory::{word, Partition, HEADER};
+use second::memory::{word, Partition, HEADER, IS_CHILD};
 use second::neighbours::{alike, differences, first_difference, Around};
 use second::pairs::{calls_within, enter_any, grown, Kind, KINDS};
 use second::random::Random;
@@ -17,14 +17,14 @@ use second::refusal::DAMAGED;
 use second::sound::sound;
 
 /// What performs a call.
-pub type Kernel = fn(&mut [u32], &[u32]) -> Answer;
+pub type Kernel = fn(&mut [u32], &[u32]) -> Said;
 
 /// The kernel that is tried, and the one that it is held to.
 pub type Kernels = [Kernel; 2];
 
 /// The second program.
-pub fn second_program(words: &mut [u32], line: &[u32]) -> Answer {
-    call(words, line[0], &line[1..]).unwrap_or_else(|| unreachable!("no such call: {line:?}"))
+pub fn second_program(words: &mut [u32], line: &[u32]) -> Said {
+    calls::perform(words, line[0], &line[1..]).unwrap_or_else(|| unreachable!("no such call: {line:?}"))
 }
 
 /// A memory by guided calls, a pair of each kind from it, and the same calls in both of each.
@@ -46,9 +46,9 @@ pub fn compare(
         }
         let pair = kind.pair(&mem, random);
         let works = works(random);
-        let mut lines = calls_within(&mut pair[0].clone(), random, &works);
-        // B's own leave is the last; the root's is refused.
-        lines.push(vec![10]);
+        let mut after = pair[0].clone();
+        let mut lines = calls_within(&mut after, random, &works);
+        lines.extend(last(&after, random));
         run(kind, pair, &lines, kernels, tally)
             .map_err(|text| format!("then a pair of {pages} pages that differ by {kind:?}: {text}"))?;
     }
@@ -59,7 +59,23 @@ pub fn compare(
 fn works(random: &mut Random) -> Vec<Work> {
     let first = [Work::Fill, Work::Dig, Work::Descend, Work::Descend, Work::Lend, Work::Lend, Work::Calls(60)];
     let first = random.pick(&first).filter(|_| !random.once_in(3));
-    first.into_iter().chain([Work::Calls(12)]).collect()
+    let talk = random.pick(&[Work::Talk]).filter(|_| random.once_in(2));
+    first.into_iter().chain(talk).chain([Work::Calls(12)]).collect()
+}
+
+/// What leads to B's parent or to the root, from B or from a child of it. B's leave is the last; the root's is refused.
+fn last(mem: &[u32], random: &mut Random) -> Vec<Vec<u32>> {
+    let own = Partition::current(mem);
+    let children = own.mappings(mem).map(|(v, _)| v).filter(|&v| own.shadow1(mem, v) == IS_CHILD);
+    let children: Vec<_> = children.map(|v| v.address(Edition::of(mem))).collect();
+    let first = match (random.below(8), random.pick(&children)) {
+        (0, _) => vec![vec![14, 0]],
+        (1, _) => vec![[13, 0].into_iter().chain(21..=30).collect()],
+        (2 | 3, _) => vec![vec![15, 0, 2]],
+        (4, Some(child)) => vec![vec![9, child], vec![15, 0, 2], vec![10]],
+        _ => Vec::new(),
+    };
+    first.into_iter().chain([vec![10]]).collect()
 }
 
 /// Runs the calls in both memories, up to the one by which B is left.
@@ -108,37 +124,43 @@ impl Run {
         Ok(Run { kernels, own, shown, tried: pair.clone(), held_to: pair, around, met })
     }
 
-    /// Performs a call in both memories; whether B is left by it.
+    /// Performs a call in both memories; whether B is left by it in one of them, which ends what is claimed.
     fn perform(&mut self, line: &[u32], tally: &mut Tally) -> Result<bool, String> {
         let [tried, held_to] = self.kernels;
         let said = [0, 1].map(|k| tried(&mut self.tried[k], line));
-        self.equal(said)?;
-        let leaves = line == [10] && said[0].is_ok() && Partition::current(&self.held_to[0]).descriptor == self.own;
+        let leaves = [0, 1].map(|k| !self.around[k].is_current(&self.tried[k]));
         let [before, after] = [&self.held_to, &self.tried].map(|mem| [&mem[0][..], &mem[1][..]]);
         let around = [&self.around[0], &self.around[1]];
-        self.met.call(&Call { line, answer: said[0], before: Two { mem: before, around }, after, leaves });
+        let answers = said.map(|said| said.answer);
+        let call = Call { line, answers, before: Two { mem: before, around }, after, leaves };
+        // The one call of B that depends on what B is not shown; by every other B is left in both or in neither.
+        if !call.own_resume() || leaves == [false; 2] {
+            self.equal(said)?;
+        }
+        self.met.call(&call);
         for k in [0, 1] {
-            tally.called(&self.held_to[k], line, said[k]);
-            let answer = held_to(&mut self.held_to[k], line);
+            tally.called(&self.held_to[k], line, said[k].answer);
+            let expected = held_to(&mut self.held_to[k], line);
             let which = ["first", "second"][k];
-            same(&self.tried[k], &self.held_to[k], said[k], answer)
+            same(&self.tried[k], &self.held_to[k], said[k], expected)
                 .map_err(|text| format!("  {which} memory\n{text}"))?;
-            if answer == Err(DAMAGED) {
+            if expected.answer == Err(DAMAGED) {
                 return Err(format!("  the call before left the {which} memory damaged"));
             }
             self.around[k] = Around::of(&self.tried[k], self.own).ok_or("  B is gone")?;
             if self.around[k].shown != self.shown {
                 return Err(format!("  other pages are shown in the {which} memory"));
             }
-            if self.around[k].is_current(&self.tried[k]) == leaves {
-                return Err(format!("  whether B is left is not as the call says in the {which} memory"));
+            let leads_up = line == [10] || matches!(line, [13..=15, 0, ..]);
+            if leaves[k] && !(leads_up && said[k].answer.is_ok()) {
+                return Err(format!("  B is left by a call that does not say so in the {which} memory"));
             }
         }
-        Ok(leaves)
+        Ok(leaves.contains(&true))
     }
 
     /// The two runs of the kernel that is tried: the answers are equal, every word of the header, and every word that is shown.
-    fn equal(&self, said: [Answer; 2]) -> Result<(), String> {
+    fn equal(&self, said: [Said; 2]) -> Result<(), String> {
         let [one, other] = &self.tried;
         if said[0] != said[1] {
             return Err(format!("  THE RUNS DIFFER in the answer: {} and {}", shown(said[0]), shown(said[1])));

@@ -1,10 +1,43 @@
 //! The proved kernel, by its C interface.
 
-use second::calls::Answer;
+use second::calls::{Answer, Said};
+use second::contexts::CONTEXT_WORDS;
 use tumashqin::{Edition, Memory, Refusal};
 
 extern "C" {
     fn tumashqin_format(words: *mut u32, length: usize, edition: u32) -> u32;
+    fn tumashqin_notify(
+        words: *mut u32,
+        length: usize,
+        target: u32,
+        eip: u32,
+        eflags: u32,
+        r0: u32,
+        r1: u32,
+        r2: u32,
+        r3: u32,
+        r4: u32,
+        r5: u32,
+        r6: u32,
+        r7: u32,
+    ) -> u64;
+    fn tumashqin_dispatch(words: *mut u32, length: usize, target: u32) -> u64;
+    fn tumashqin_resume(
+        words: *mut u32,
+        length: usize,
+        target: u32,
+        slot: u32,
+        out: *mut u32,
+        out_length: usize,
+    ) -> u64;
+}
+
+/// The word, or the refusal times 2^32.
+fn unpacked(packed: u64) -> Answer {
+    match (packed >> 32) as u32 {
+        0 => Ok(packed as u32),
+        refusal => Err(refusal),
+    }
 }
 
 fn format(words: &mut [u32], edition: u32) -> Answer {
@@ -20,10 +53,42 @@ fn format(words: &mut [u32], edition: u32) -> Answer {
     Memory::format(words, edition).map(|_| 0).map_err(Refusal::number)
 }
 
+fn notify(words: &mut [u32], target: u32, eip: u32, eflags: u32, r: &[u32; 8]) -> Answer {
+    let (start, length) = (words.as_mut_ptr(), words.len());
+    // The words' own pointer and length, as for the other two.
+    unpacked(unsafe {
+        tumashqin_notify(start, length, target, eip, eflags, r[0], r[1], r[2], r[3], r[4], r[5], r[6], r[7])
+    })
+}
+
+fn dispatch(words: &mut [u32], target: u32) -> Answer {
+    unpacked(unsafe { tumashqin_dispatch(words.as_mut_ptr(), words.len(), target) })
+}
+
+/// With any number of words lent for the context.
+pub fn resume(words: &mut [u32], target: u32, slot: u32, out: &mut [u32]) -> Answer {
+    unpacked(unsafe { tumashqin_resume(words.as_mut_ptr(), words.len(), target, slot, out.as_mut_ptr(), out.len()) })
+}
+
 /// Performs a call by its number, 0 for format.
-pub fn call(words: &mut [u32], line: &[u32]) -> Answer {
-    if let [0, edition] = *line {
-        return format(words, edition);
+pub fn call(words: &mut [u32], line: &[u32]) -> Said {
+    if let [15, target, slot] = *line {
+        let mut out = [0xA5A5_A5A5; CONTEXT_WORDS];
+        let answer = resume(words, target, slot, &mut out);
+        return Said { answer, context: Some(out) };
+    }
+    call_but_resume(words, line).into()
+}
+
+fn call_but_resume(words: &mut [u32], line: &[u32]) -> Answer {
+    match *line {
+        [0, edition] => return format(words, edition),
+        [13, target, eip, eflags, ref registers @ ..] => {
+            let registers = registers.try_into().unwrap_or_else(|_| unreachable!("eight registers: {line:?}"));
+            return notify(words, target, eip, eflags, registers);
+        }
+        [14, target] => return dispatch(words, target),
+        _ => (),
     }
     let mut memory = Memory::over(words);
     let answer = match *line {

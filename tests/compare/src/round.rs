@@ -5,7 +5,7 @@ use crate::tally::Tally;
 use crate::{memories, pairs, proved, records, scripts};
 use second::calls::Answer;
 use second::geometry::*;
-use second::make::guide;
+use second::make::{guide, guide_but, Work};
 use second::random::Random;
 use second::refusal::DEPTH;
 
@@ -19,6 +19,10 @@ const BOTH: usize = 16_384;
 pub const FEW: [usize; 2] = [16, 17];
 pub const MANY: [usize; 7] = [1_032, 1_033, 2_059, 2_060, 3_086, 3_087, 4_096];
 
+/// Works of notify, dispatch and resume in a round of small pages, and the least pages that they are done in.
+const TALKS: usize = 16;
+const CONTEXT_PAGES: usize = 60;
+
 /// All of a round follows from its seed; seeds in a row have either edition in turn. With a flip one bit of the proved
 /// kernel's memory is changed after the call of that index.
 pub fn round(seed: u32, flip: Option<usize>, tally: &mut Tally) -> Result<(), String> {
@@ -30,6 +34,9 @@ pub fn round(seed: u32, flip: Option<usize>, tally: &mut Tally) -> Result<(), St
         .and_then(|()| memories::any_words(edition, pages, &mut random, tally))
         .and_then(|()| sequence(edition, pages, Random::new(!seed), flip, &mut random, tally))
         .and_then(|()| scripts::compare(small, &mut random, tally));
+    if edition == SMALL {
+        done = done.and_then(|()| contexts(pages.max(CONTEXT_PAGES), &mut random, tally));
+    }
     if edition == LARGE && turn.is_multiple_of(5) {
         done = done.and_then(|()| many_pages(MANY[turn / 5 % MANY.len()], &mut random, tally));
     }
@@ -69,13 +76,13 @@ fn sequence(
     while index < CALLS && result.is_ok() {
         perform(&mut proved, &mut second, &[0, edition.number], tally)?;
         let count = if both { 50 + guiding.below(300) } else { CALLS };
-        guide(&mut second, &mut guiding, count.min(CALLS - index), |line, answer, after| {
+        guide(&mut second, &mut guiding, count.min(CALLS - index), |line, said, after| {
             if result.is_err() {
                 return;
             }
             let flip = (flip == Some(index)).then(|| (random.below(proved.len()), random.below(32)));
-            result = follow(&mut proved, line, answer, after, flip, tally)
-                .and_then(|()| between(&mut proved, line, answer, after, random, tally))
+            result = follow(&mut proved, line, said, after, flip, tally)
+                .and_then(|()| between(&mut proved, line, said.answer, after, random, tally))
                 .map_err(|text| format!("call {index}: {text}"));
             index += 1;
         });
@@ -85,6 +92,21 @@ fn sequence(
         edition = EDITIONS[guiding.below(2)];
     }
     result
+}
+
+/// Notify, dispatch and resume between partitions that have slot pages, and lose and get them.
+fn contexts(pages: usize, random: &mut Random, tally: &mut Tally) -> Result<(), String> {
+    let mut second: Vec<u32> = (0..pages * SMALL.page_words()).map(|_| random.draw() as u32).collect();
+    let mut proved = second.clone();
+    let mut result = perform(&mut proved, &mut second, &[0, SMALL.number], tally);
+    for work in std::iter::once(Work::Dig).chain([Work::Talk; TALKS]) {
+        guide_but(&mut second, random, work, &|_, _| false, |line, said, after| {
+            if result.is_ok() {
+                result = follow(&mut proved, line, said, after, None, tally);
+            }
+        });
+    }
+    result.map_err(|text| format!("then {pages} pages, notify, dispatch and resume: {text}"))
 }
 
 /// A memory of many large pages: calls on the first and the last of them and at the last virtual page, a record, a changed memory, and a few guided calls.
@@ -97,9 +119,9 @@ fn many_pages(pages: usize, random: &mut Random, tally: &mut Tally) -> Result<()
     }
     result = result.and_then(|()| records::compare(&mut proved, random, tally));
     result = result.and_then(|()| memories::changed(&second, random, tally));
-    guide(&mut second, random, 12, |line, answer, after| {
+    guide(&mut second, random, 12, |line, said, after| {
         if result.is_ok() {
-            result = follow(&mut proved, line, answer, after, None, tally);
+            result = follow(&mut proved, line, said, after, None, tally);
         }
     });
     tally.sequence(pages);

@@ -4,7 +4,7 @@ use crate::tally::Tally;
 use second::geometry::SMALL;
 use second::make::make;
 use second::random::Random;
-use second::replay::{replay, MOST_BYTES};
+use second::replay::{replay, CALLS, MOST_BYTES};
 use std::io::{self, Write};
 use std::path::Path;
 use std::process::{Command, Stdio};
@@ -51,7 +51,8 @@ fn script(pages: usize, random: &mut Random) -> Vec<u8> {
     let gap = if random.once_in(3) { random.below(9) } else { 0 };
     let room = MOST_BYTES - gap - if random.once_in(2) { 0 } else { random.below(MOST_BYTES - HEADER - gap) };
     let (mut script, mut count) = (vec![0; HEADER + gap], 0u32);
-    for line in make(SMALL, random.draw() as u32, 400, pages).iter().filter(|line| line[0] != 0) {
+    let made = make(SMALL, random.draw() as u32, 400, pages);
+    for line in made.iter().filter(|line| (1..=CALLS).contains(&(line[0] as usize))) {
         if script.len() + 4 * line.len() > room {
             break;
         }

@@ -1,5 +1,8 @@
 //! What was compared so far.
 
+use crate::context_ways::ContextWays;
+use crate::flags::Flags;
+use crate::outs::Outs;
 use crate::paired::Paired;
 use crate::round::{FEW, MANY};
 use crate::scripts;
@@ -35,6 +38,11 @@ pub struct Tally {
     /// By the edition's number, and for none.
     parts: [Part; NONE + 1],
     ways: Ways,
+    context_ways: ContextWays,
+    /// Memories of other words by their live flags.
+    pub flags: Flags,
+    /// Resumes by the number of words lent for the context.
+    pub outs: Outs,
     /// Sequences of the large edition by page count.
     sequences: BTreeMap<usize, u64>,
     /// Scripts replayed by both, good and bad ones.
@@ -66,20 +74,20 @@ impl Part {
     }
 
     /// What has to occur on memories of an edition, and did not.
-    fn missing(&self) -> Vec<String> {
-        let mut missing = self.cover.missing();
+    fn missing(&self, edition: Edition) -> Vec<String> {
+        let mut missing = self.cover.missing(&[edition]);
         let sentences = numbers().filter(|sentence| !self.alone.contains_key(sentence));
         missing.extend(sentences.map(|sentence| format!("sentence {sentence} broken alone")));
         let verdicts = [0, 1].into_iter().filter(|&verdict| self.verdicts[verdict] == 0);
         missing.extend(verdicts.map(|verdict| format!("verdict {verdict}")));
         missing.extend((self.from_the_other == 0).then(|| "a memory of the other edition".to_string()));
-        missing.extend(self.paired.missing());
+        missing.extend(self.paired.missing(edition));
         missing
     }
 
     /// What has to occur where the header names no edition, or format chooses none: everything is refused.
     fn missing_refusals(&self) -> Vec<String> {
-        let mut missing = self.cover.missing();
+        let mut missing = self.cover.missing(&EDITIONS);
         missing.retain(|answer| answer.ends_with(" no 1") || answer == "format no 2");
         missing.extend((self.verdicts[1] == 0).then(|| "verdict 1".to_string()));
         missing
@@ -100,6 +108,7 @@ impl Tally {
         };
         part.cover.count(line[0] as usize, answer);
         self.ways.count(mem, line, answer);
+        self.context_ways.count(mem, line, answer);
     }
 
     /// Counts a sequence of the large edition.
@@ -110,6 +119,9 @@ impl Tally {
     pub fn add(&mut self, other: &Tally) {
         self.parts.iter_mut().zip(&other.parts).for_each(|(own, other)| own.add(other));
         self.ways.add(&other.ways);
+        self.context_ways.add(&other.context_ways);
+        self.flags.add(&other.flags);
+        self.outs.add(&other.outs);
         other.sequences.iter().for_each(|(&pages, count)| *self.sequences.entry(pages).or_default() += count);
         self.good_scripts += other.good_scripts;
         self.bad_scripts += other.bad_scripts;
@@ -118,8 +130,11 @@ impl Tally {
     /// What has to occur and did not.
     pub fn missing(&self) -> Vec<String> {
         let mut missing = self.ways.missing();
+        missing.extend(self.context_ways.missing());
+        missing.extend(self.flags.missing());
+        missing.extend(self.outs.missing());
         for (part, edition) in self.parts.iter().zip(EDITIONS) {
-            missing.extend(part.missing().into_iter().map(|what| format!("edition {}: {what}", edition.number)));
+            missing.extend(part.missing(edition).into_iter().map(|what| format!("edition {}: {what}", edition.number)));
         }
         missing.extend(self.parts[NONE].missing_refusals().into_iter().map(|what| format!("no edition: {what}")));
         let counts = FEW.into_iter().chain(MANY).filter(|pages| !self.sequences.contains_key(pages));
@@ -152,7 +167,7 @@ impl fmt::Display for Tally {
         for (part, edition) in self.parts.iter().zip(EDITIONS) {
             let (number, bytes) = (edition.number, edition.page_bytes());
             writeln!(f, "\nEdition {number}, pages of {bytes} bytes: {} calls", part.cover.calls())?;
-            write!(f, "{}\n\n{part}", part.cover)?;
+            write!(f, "{}\n\n{part}", part.cover.table(&[edition]))?;
         }
         let Part { cover, verdicts: [sound, damaged], .. } = &self.parts[NONE];
         let (calls, passed) = (cover.calls(), cover.passed());
@@ -161,6 +176,9 @@ impl fmt::Display for Tally {
             "\nNo edition named or chosen: {calls} calls, {passed} passed; verdicts: {sound} sound, {damaged} damaged"
         )?;
         writeln!(f, "\n{}", self.ways)?;
+        writeln!(f, "notify, dispatch and resume\n{}", self.context_ways)?;
+        self.flags.each().try_for_each(|(name, count)| writeln!(f, "{count:9}  {name}"))?;
+        writeln!(f, "{} resumes with fewer or more words for the context than eleven", self.outs.count())?;
         let sequences: Vec<_> = self.sequences.iter().map(|(pages, count)| format!("{pages}: {count}")).collect();
         writeln!(f, "sequences by the number of large pages: {}", sequences.join(", "))?;
         if !scripts::built() {
@@ -171,7 +189,8 @@ impl fmt::Display for Tally {
             writeln!(
                 f,
                 "\nPairs of memories that show a partition B the same, edition {}: {}",
-                edition.number, part.paired
+                edition.number,
+                part.paired.text(edition)
             )
         })
     }

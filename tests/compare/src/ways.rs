@@ -127,9 +127,10 @@ impl Look<'_> {
         self.line[0] == number && self.answer == Err(refusal)
     }
 
-    /// Refused as an address, with such an address among the arguments; rights and a word to be stored are none.
+    /// Refused as an address, with such an address among the arguments; rights, slots and words to be saved or stored are none.
     fn address(&self, bad: impl Fn(u32) -> bool) -> bool {
         let addresses = match self.line {
+            [13..=15, target, ..] => std::slice::from_ref(target),
             [3, addresses @ .., _] | [12, addresses @ .., _] | [_, addresses @ ..] => addresses,
             [] => &[],
         };

@@ -1,5 +1,6 @@
-//! Format and the twelve calls. A refusal is decided before any word changes.
+//! Format, the twelve calls, and each of the fifteen by its number. A refusal is decided before any word changes.
 
+use crate::contexts::{dispatch, notify, resume, Context, CONTEXT_WORDS};
 use crate::geometry::*;
 use crate::memory::*;
 use crate::refusal::*;
@@ -8,11 +9,37 @@ use crate::sound::{is_lent, sound};
 /// The answer, or the number of the first refusal.
 pub type Answer = Result<u32, u32>;
 
+/// All that a call answers: resume's answer is 0 or a refusal, with eleven words besides, zeros beside a refusal.
+#[derive(Clone, Copy, PartialEq, Eq, Debug)]
+pub struct Said {
+    pub answer: Answer,
+    pub context: Option<Context>,
+}
+
+impl From<Answer> for Said {
+    fn from(answer: Answer) -> Said {
+        Said { answer, context: None }
+    }
+}
+
 /// How many arguments each call has, by its number from 1.
-pub const ARGUMENTS: [usize; 12] = [5, 1, 4, 2, 2, 3, 2, 1, 1, 0, 1, 2];
+pub const ARGUMENTS: [usize; 15] = [5, 1, 4, 2, 2, 3, 2, 1, 1, 0, 1, 2, 11, 1, 2];
 
 /// Performs a call by its number, 0 for format, whose argument is the edition; none when the number or the argument count is wrong.
+pub fn perform(mem: &mut [u32], number: u32, arguments: &[u32]) -> Option<Said> {
+    if let (15, &[target, slot]) = (number, arguments) {
+        let resumed = resume(mem, target, slot);
+        return Some(Said { answer: resumed.map(|_| 0), context: Some(resumed.unwrap_or([0; CONTEXT_WORDS])) });
+    }
+    call_but_resume(mem, number, arguments).map(Said::from)
+}
+
+/// The same, for its answer alone.
 pub fn call(mem: &mut [u32], number: u32, arguments: &[u32]) -> Option<Answer> {
+    perform(mem, number, arguments).map(|said| said.answer)
+}
+
+fn call_but_resume(mem: &mut [u32], number: u32, arguments: &[u32]) -> Option<Answer> {
     Some(match (number, arguments) {
         (0, &[edition]) => format(mem, edition),
         (1, &[a, b, c, d, e]) => create_partition(mem, [a, b, c, d, e]),
@@ -27,18 +54,22 @@ pub fn call(mem: &mut [u32], number: u32, arguments: &[u32]) -> Option<Answer> {
         (10, []) => leave(mem),
         (11, &[address]) => load(mem, address),
         (12, &[address, value]) => store(mem, address, value),
+        (13, &[target, eip, eflags, ref registers @ ..]) => {
+            notify(mem, target, eip, eflags, registers.try_into().ok()?)
+        }
+        (14, &[target]) => dispatch(mem, target),
         _ => return None,
     })
 }
 
 // Checks.
 
-fn require(holds: bool, refusal: u32) -> Result<(), u32> {
+pub(crate) fn require(holds: bool, refusal: u32) -> Result<(), u32> {
     holds.then_some(()).ok_or(refusal)
 }
 
 /// The current partition of sound memory.
-fn caller_of(mem: &[u32]) -> Result<Partition, u32> {
+pub(crate) fn caller_of(mem: &[u32]) -> Result<Partition, u32> {
     sound(mem).map_err(|_| DAMAGED)?;
     Ok(Partition::current(mem))
 }
@@ -48,14 +79,14 @@ fn good_address(edition: Edition, address: u32, multiple: u32) -> bool {
     good.contains(&address.into()) && address.is_multiple_of(multiple)
 }
 
-fn page_addresses<const K: usize>(mem: &[u32], addresses: [u32; K]) -> Result<[VPage; K], u32> {
+pub(crate) fn page_addresses<const K: usize>(mem: &[u32], addresses: [u32; K]) -> Result<[VPage; K], u32> {
     let edition = Edition::of(mem);
     require(addresses.iter().all(|&a| good_address(edition, a, edition.page_bytes())), ADDRESS)?;
     Ok(addresses.map(|address| VPage::of(edition, address)))
 }
 
 /// The child whose descriptor the caller has at this address.
-fn child_at(mem: &[u32], caller: &Partition, at: VPage) -> Result<Partition, u32> {
+pub(crate) fn child_at(mem: &[u32], caller: &Partition, at: VPage) -> Result<Partition, u32> {
     require(caller.shadow1(mem, at) == IS_CHILD, CHILD)?;
     let mapping = caller.mapping(mem, at).ok_or(CHILD)?;
     Ok(Partition::at(mem, mapping.page))
@@ -66,7 +97,7 @@ fn mapping_in_hand(mem: &[u32], partition: &Partition, v: VPage) -> Result<Mappi
     partition.mapping(mem, v).ok_or(HAND)
 }
 
-fn holds(mapping: Mapping, rights: u32) -> bool {
+pub(crate) fn holds(mapping: Mapping, rights: u32) -> bool {
     rights & !mapping.rights == 0
 }
 
@@ -75,7 +106,7 @@ fn depth_of(mem: &[u32], partition: &Partition) -> usize {
     parents.take(MOST_DEPTH + 1).count() - 1
 }
 
-fn parent_of(mem: &[u32], descriptor: PPage) -> Option<PPage> {
+pub(crate) fn parent_of(mem: &[u32], descriptor: PPage) -> Option<PPage> {
     let address = word(mem, descriptor, PARENT);
     (address != 0).then_some(PPage::of(Edition::of(mem), address))
 }

@@ -28,7 +28,7 @@ pub fn damage(mem: &[u32], random: &mut Random) -> Changes {
 /// Changes of any number of words: also those that one word or two seldom make, so that each sentence is broken alone.
 pub fn wide_damage(mem: &[u32], random: &mut Random) -> Changes {
     let nodes = tree(mem);
-    let wider = match random.below(17) {
+    let wider = match random.below(19) {
         0 => second_use(mem, &nodes, random),
         1 => other_order(mem, &nodes, random),
         2 => open_descriptor(mem, &nodes, random),
@@ -40,6 +40,7 @@ pub fn wide_damage(mem: &[u32], random: &mut Random) -> Changes {
         8 => lost_mapping(mem, &nodes, random),
         9 => write_and_execute(mem, &nodes, random),
         10 => unwritable_kernel_page(mem, random).map(|(changes, _)| changes),
+        11 | 12 => other_flag(mem, &nodes, random),
         _ => None,
     };
     wider.unwrap_or_else(|| damage(mem, random))
@@ -61,6 +62,14 @@ fn other_parent(mem: &[u32], nodes: &[Node], random: &mut Random) -> Option<Chan
     let children: Vec<_> = nodes[1..].iter().map(|node| node.partition.descriptor).collect();
     let index = start(mem, random.pick(&children)?) + PARENT;
     Some(vec![(index, any_page(mem, random))])
+}
+
+/// Another live flag in any partition, good or not, or a word behind it.
+fn other_flag(mem: &[u32], nodes: &[Node], random: &mut Random) -> Option<Changes> {
+    let any = random.pick(nodes.iter().map(|node| node.partition.descriptor).collect::<Vec<_>>().as_slice())?;
+    let descriptor = if random.once_in(3) { ROOT_PAGE } else { any };
+    let (index, value) = random.pick(&[(FLAG, 1), (FLAG, 1), (FLAG, 2), (FLAG, 3), (FLAG, u32::MAX), (FLAG + 1, 1)])?;
+    Some(vec![(start(mem, descriptor) + index, value)])
 }
 
 /// Makes a child's descriptor accessible in all its ancestors.

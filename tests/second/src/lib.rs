@@ -1,6 +1,7 @@
 //! A second, independent kernel for comparison. It is written from the paper's rules and not proved.
 
 pub mod calls;
+pub mod contexts;
 pub mod cover;
 pub mod damage;
 pub mod geometry;

@@ -1,16 +1,20 @@
 //! A guided random maker of call sequences. It keeps its own memory, so that it knows which
 //! arguments would pass, and spoils some of them so that each refusal comes up too.
 
-use crate::calls::{call, format, Answer};
+mod contexts;
+
+use crate::calls::{format, perform, Said};
 use crate::geometry::*;
 use crate::memory::*;
 use crate::random::Random;
 
-struct Maker<'a, Show: FnMut(&[u32], Answer, &[u32])> {
+struct Maker<'a, Show: FnMut(&[u32], Said, &[u32])> {
     mem: &'a mut [u32],
     random: &'a mut Random,
     /// How many calls are still to be made.
     left: usize,
+    /// Whether the caller's slot page is left out of its hand.
+    spares_slots: bool,
     skip: &'a Skip<'a>,
     show: Show,
 }
@@ -40,6 +44,8 @@ pub enum Work {
     Descend,
     /// Pages lent with any rights to a child.
     Lend,
+    /// Notify, dispatch and resume, with slot pages in all states.
+    Talk,
 }
 
 /// The most calls of a work that ends by itself.
@@ -55,7 +61,7 @@ pub fn make(edition: Edition, seed: u32, count: usize, pages: usize) -> Vec<Vec<
 }
 
 /// Makes and performs so many calls, and shows each with its answer and the memory after it.
-pub fn guide(mem: &mut [u32], random: &mut Random, count: usize, show: impl FnMut(&[u32], Answer, &[u32])) {
+pub fn guide(mem: &mut [u32], random: &mut Random, count: usize, show: impl FnMut(&[u32], Said, &[u32])) {
     guide_but(mem, random, Work::Calls(count), &|_, _| false, show);
 }
 
@@ -65,9 +71,9 @@ pub fn guide_but(
     random: &mut Random,
     work: Work,
     skip: &Skip,
-    show: impl FnMut(&[u32], Answer, &[u32]),
+    show: impl FnMut(&[u32], Said, &[u32]),
 ) {
-    let mut maker = Maker { mem, random, left: MOST_CALLS, skip, show };
+    let mut maker = Maker { mem, random, left: MOST_CALLS, spares_slots: false, skip, show };
     match work {
         Work::Calls(count) => maker.left = count,
         Work::Fill => return maker.fill(),
@@ -78,28 +84,32 @@ pub fn guide_but(
             return maker.create();
         }
         Work::Lend => return maker.lend_any(),
+        Work::Talk => return maker.talk(),
     }
     while maker.left > 0 {
-        match maker.random.below(20) {
+        match maker.random.below(23) {
             0..=7 => maker.mix(60),
             8 => maker.dig(3, Dig::Loose),
-            9 => maker.dig_and_end(),
+            9 | 22 => maker.dig_and_end(),
             10 | 11 => maker.dig_deep(),
             12 | 18 => maker.fill(),
             13 | 14 => maker.tear(),
             15 => maker.climb(3),
             16 | 17 => maker.descend(3),
+            20 | 21 => maker.talk(),
             _ if maker.random.once_in(8) => drop(maker.say(&[0, maker.edition().number])),
             _ => maker.clear_top(),
         }
     }
 }
 
-/// Goes down so many levels from the current partition, as far as the pages last. At each some stay in hand, at the first and the last enough for another
-/// child; the last has fewer rights on many pages.
+/// Goes down so many levels from the current partition, as far as the pages last. At each some stay in hand, mostly the slot page too, at the first and the
+/// last enough for another child; the last has fewer rights on many pages.
 pub fn grow(mem: &mut [u32], random: &mut Random, levels: usize) {
-    let mut maker = Maker { mem, random, left: usize::MAX, skip: &|_, _| false, show: |_, _, _| () };
+    let mut maker =
+        Maker { mem, random, left: usize::MAX, spares_slots: false, skip: &|_, _| false, show: |_, _, _| () };
     for level in 1..=levels {
+        maker.spares_slots = !maker.random.once_in(4);
         let (least, fewer) = (if level == 1 || level == levels { 11 } else { 0 }, if level == levels { 4 } else { 16 });
         let kept = least + maker.random.below(10);
         maker.dig(1, Dig::Apart { kept, fewer });
@@ -107,19 +117,19 @@ pub fn grow(mem: &mut [u32], random: &mut Random, levels: usize) {
 }
 
 /// Call numbers for the mix, the more useful ones more often.
-const MIX: [u32; 30] =
-    [1, 1, 2, 3, 3, 3, 3, 3, 3, 4, 4, 4, 5, 6, 6, 6, 7, 7, 7, 8, 8, 9, 9, 10, 11, 11, 11, 12, 12, 12];
+const MIX: [u32; 33] =
+    [1, 1, 2, 3, 3, 3, 3, 3, 3, 4, 4, 4, 5, 6, 6, 6, 7, 7, 7, 8, 8, 9, 9, 10, 11, 11, 11, 12, 12, 12, 13, 14, 15];
 
-impl<Show: FnMut(&[u32], Answer, &[u32])> Maker<'_, Show> {
+impl<Show: FnMut(&[u32], Said, &[u32])> Maker<'_, Show> {
     /// The call's answer where it passes.
     fn say(&mut self, line: &[u32]) -> Option<u32> {
         self.left = self.left.checked_sub(1)?;
         if (self.skip)(self.mem, line) {
             return None;
         }
-        let answer = call(self.mem, line[0], &line[1..])?;
-        (self.show)(line, answer, self.mem);
-        answer.ok()
+        let said = perform(self.mem, line[0], &line[1..])?;
+        (self.show)(line, said, self.mem);
+        said.answer.ok()
     }
 
     fn edition(&self) -> Edition {
@@ -129,6 +139,10 @@ impl<Show: FnMut(&[u32], Answer, &[u32])> Maker<'_, Show> {
     /// The virtual page at an address.
     fn page(&self, address: u32) -> VPage {
         VPage::of(self.edition(), address)
+    }
+
+    fn last_page(&self) -> u32 {
+        VPage(self.edition().virtual_pages() - 1).address(self.edition())
     }
 
     /// The address of a virtual page, by its two table indices.
@@ -146,6 +160,8 @@ impl<Show: FnMut(&[u32], Answer, &[u32])> Maker<'_, Show> {
     /// Pages in the caller's hand with at least these rights, in random order.
     fn hand(&mut self, rights: u32) -> Vec<u32> {
         let mut hand = self.mapped(|here, v, m| here.in_hand(self.mem, v) && rights & !m.rights == 0);
+        let slots = self.own_slots();
+        hand.retain(|&page| !self.spares_slots || self.edition() != SMALL || page != slots);
         self.random.shuffle(&mut hand);
         hand
     }
@@ -224,13 +240,15 @@ impl<Show: FnMut(&[u32], Answer, &[u32])> Maker<'_, Show> {
     fn mix(&mut self, calls: usize) {
         for _ in 0..calls {
             let number = self.random.pick(&MIX).unwrap_or(10);
-            self.guided(number);
+            // With large pages notify, dispatch and resume are always refused: few of them.
+            let passed_over = number > 12 && self.edition() != SMALL && !self.random.once_in(4);
+            self.guided(if passed_over { 11 } else { number });
         }
     }
 
     fn guided(&mut self, number: u32) {
         let children = self.children();
-        let lacks_child = matches!(number, 2..=7 | 9) && children.is_empty();
+        let lacks_child = matches!(number, 2..=7 | 9 | 13..=15) && children.is_empty();
         let lacks_pages = match number {
             1 => self.hand(WRITE).len() < 5,
             6 => self.hand(READ + WRITE).len() < 3,
@@ -254,6 +272,7 @@ impl<Show: FnMut(&[u32], Answer, &[u32])> Maker<'_, Show> {
         }
         let line = match number {
             1 => return self.create(),
+            13..=15 => return self.context_call(number, 10),
             3 => {
                 let (hand, taken) = (self.hand(0), self.random.once_in(12));
                 let some = if self.random.once_in(3) { 0 } else { READ + WRITE };
@@ -319,8 +338,14 @@ impl<Show: FnMut(&[u32], Answer, &[u32])> Maker<'_, Show> {
 
     // Longer works.
 
-    /// Three good pages as a three for the child at a bare index; answers that index. The highest page is often a link.
+    /// Three good pages as a three for the child at a bare index; answers that index.
     fn furnish(&mut self, child: u32) -> Option<usize> {
+        let target = self.bare(child);
+        self.furnish_at(child, target)
+    }
+
+    /// The same at an address. The highest page is often a link.
+    fn furnish_at(&mut self, child: u32, target: u32) -> Option<usize> {
         let mut hand = self.hand(READ + WRITE);
         if hand.len() > 2 && self.random.once_in(3) {
             let highest = (0..hand.len()).max_by_key(|&place| hand[place])?;
@@ -330,7 +355,6 @@ impl<Show: FnMut(&[u32], Answer, &[u32])> Maker<'_, Show> {
         for line in [[12, a, b], [12, b, c], [12, c, 0]] {
             self.say(&line);
         }
-        let target = self.bare(child);
         self.say(&[6, child, target, a]);
         Some(self.page(target).directory_index(self.edition()))
     }
@@ -343,7 +367,10 @@ impl<Show: FnMut(&[u32], Answer, &[u32])> Maker<'_, Show> {
             if refused && matches!(way, Dig::Apart { .. }) {
                 break;
             }
-            let Some(index) = self.furnish(a) else { break };
+            // Often where the child's slot page is to be.
+            let elsewhere = self.random.once_in(if matches!(way, Dig::Apart { .. }) { 6 } else { 2 });
+            let target = if elsewhere { self.bare(a) } else { self.last_page() };
+            let Some(index) = self.furnish_at(a, target) else { break };
             self.lend(a, index, way);
             while self.left > 0 && matches!(way, Dig::Apart { kept, .. } if self.hand(0).len() > kept + 3) {
                 let Some(index) = self.furnish(a) else { break };
@@ -366,7 +393,7 @@ impl<Show: FnMut(&[u32], Answer, &[u32])> Maker<'_, Show> {
         slots.retain(|&slot| slot != 0);
         let last = self.address(index, words - 1);
         self.random.shuffle(&mut slots);
-        if self.random.once_in(2) {
+        if !self.random.once_in(if matches!(way, Dig::Apart { .. }) { 8 } else { 2 }) {
             slots.retain(|&slot| slot != last);
             slots.insert(0, last);
         }
@@ -384,7 +411,7 @@ impl<Show: FnMut(&[u32], Answer, &[u32])> Maker<'_, Show> {
             };
             let some = if fewer { self.random.below(6) as u32 } else { READ + WRITE };
             // Words that the child's end wipes, or leaves to a caller that may not write them.
-            if way != Dig::Tight && self.random.once_in(4) && self.rights(page) & WRITE != 0 {
+            if way != Dig::Tight && self.random.once_in(if fewer { 2 } else { 4 }) && self.rights(page) & WRITE != 0 {
                 let (place, word) = (4 * self.random.below(words) as u32, self.random.draw() as u32);
                 self.say(&[12, page + place, word]);
             }

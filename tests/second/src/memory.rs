@@ -7,6 +7,8 @@ use crate::geometry::*;
 pub const CURRENT: usize = 4;
 /// Descriptor word that holds the parent's descriptor address.
 pub const PARENT: usize = 11;
+/// Descriptor word that holds the live flag, 0 or 1; 0 with large pages.
+pub const FLAG: usize = 12;
 pub const ROOT_PAGE: PPage = PPage(1);
 pub const HEADER: PPage = PPage(0);
 /// Shadow 1 word of a page that is itself a child's descriptor.

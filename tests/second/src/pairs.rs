@@ -1,6 +1,7 @@
 //! Makers of pairs of memories that show B the same and differ in all else that may (document 02, L11).
 
 use crate::calls::{call, format};
+use crate::contexts::{slot_page, slot_word, TO_CHILD, VALID};
 use crate::geometry::*;
 use crate::make::{grow, guide_but, Work};
 use crate::memory::*;
@@ -12,7 +13,7 @@ use crate::tree::tree;
 /// What differs between the memories of a pair.
 #[derive(Clone, Copy, PartialEq, Eq, Debug)]
 pub enum Kind {
-    /// Words of pages in the hands of partitions that are neither B nor below it.
+    /// Words of pages in the hands of partitions that are neither B nor below it, and their live flags.
     Words,
     /// What these partitions did: siblings of B made and ended, tables, pages lent and with which rights.
     Calls,
@@ -83,7 +84,12 @@ fn make_current(mem: &mut [u32], descriptor: PPage) {
 pub fn calls_within(mem: &mut [u32], random: &mut Random, works: &[Work]) -> Vec<Vec<u32>> {
     let (own, mut lines) = (Partition::current(mem).descriptor, Vec::new());
     let is_own = |mem: &[u32]| Partition::current(mem).descriptor == own;
-    let leaves = |mem: &[u32], line: &[u32]| line[0] == 0 || line[0] == 10 && is_own(mem) && own != ROOT_PAGE;
+    let leaves = |mem: &[u32], line: &[u32]| match *line {
+        [0, ..] => true,
+        [10] => is_own(mem) && own != ROOT_PAGE,
+        [13..=15, 0, ..] => own != ROOT_PAGE && leads_out(mem, own, line),
+        _ => false,
+    };
     for &work in works {
         guide_but(mem, random, work, &leaves, |line, _, _| lines.push(line.to_vec()));
     }
@@ -91,6 +97,13 @@ pub fn calls_within(mem: &mut [u32], random: &mut Random, works: &[Work]) -> Vec
         lines.push(vec![10]);
     }
     lines
+}
+
+/// Whether a call makes a partition current that is neither B nor below it.
+fn leads_out(mem: &[u32], own: PPage, line: &[u32]) -> bool {
+    let mut after = mem.to_vec();
+    let passes = call(&mut after, line[0], &line[1..]).is_some_and(|answer| answer.is_ok());
+    passes && Around::of(&after, own).is_none_or(|around| !around.is_current(&after))
 }
 
 /// Performs guided calls of partitions above B, which is current, and beside it, but for those that change a word that is shown to B or that enter it.
@@ -105,7 +118,7 @@ fn calls_outside(mem: &mut [u32], random: &mut Random) {
             [0, ..] => true,
             // The end of a partition above B is B's end.
             [2, child] => page(child).is_some_and(|page| page == own || above.contains(&page)),
-            [3, _, child, ..] | [4 | 6 | 7 | 9, child, ..] => page(child) == Some(own),
+            [3, _, child, ..] | [4 | 6 | 7 | 9 | 13..=15, child, ..] => page(child) == Some(own),
             [12, address, _] => page(address).is_some_and(|page| around.shown[page.0 as usize]),
             _ => false,
         }
@@ -113,25 +126,33 @@ fn calls_outside(mem: &mut [u32], random: &mut Random) {
     // The parent first, for B's siblings.
     for caller in above.first().copied().into_iter().chain(random.pick(&above)) {
         make_current(mem, caller);
-        if random.once_in(2) {
-            guide_but(mem, random, Work::Dig, &left_out, |_, _, _| ());
+        for work in [Work::Dig, Work::Talk] {
+            if random.once_in(2) {
+                guide_but(mem, random, work, &left_out, |_, _, _| ());
+            }
         }
         guide_but(mem, random, Work::Calls(CALLS / 2), &left_out, |_, _, _| ());
     }
     make_current(mem, own);
 }
 
-/// Random words, and words like the kernel's.
+/// Random words, and words like the kernel's; any flags, and slots that are valid or not.
 fn other_words(mem: &mut [u32], around: &Around, random: &mut Random) {
     let (tables, edition) = (mem.to_vec(), Edition::of(mem));
     let pages = mem.len() / edition.page_words();
     for node in around.others() {
+        if edition == SMALL {
+            set_word(mem, node.partition.descriptor, FLAG, random.below(2) as u32);
+        }
         for &(_, mapping) in node.mappings.iter().filter(|&&(v, _)| node.partition.in_hand(&tables, v)) {
             for word in words_of_mut(mem, mapping.page) {
                 let any = random.draw() as u32;
                 let address = PPage(any % pages as u32).address(edition);
                 *word = random.pick(&[0, 1, any, any, address, address + any % 32]).unwrap_or(any);
             }
+        }
+        if let (SMALL, Ok(page)) = (edition, slot_page(&tables, &node.partition)) {
+            set_word(mem, page, slot_word(TO_CHILD, VALID), random.below(3) as u32);
         }
     }
 }

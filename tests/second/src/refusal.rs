@@ -18,3 +18,7 @@ pub const UNMAPPED: u32 = 15;
 pub const KERNEL: u32 = 16;
 pub const SHORT: u32 = 17;
 pub const MAGIC: u32 = 18;
+pub const SLOT_PAGE: u32 = 20;
+pub const SLOT: u32 = 21;
+pub const EMPTY_SLOT: u32 = 22;
+pub const EDITION: u32 = 24;

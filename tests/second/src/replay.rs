@@ -4,6 +4,8 @@ use crate::calls::{call, format, ARGUMENTS};
 use crate::geometry::{Sizes, SMALL};
 
 pub const MOST_BYTES: usize = 4096;
+/// The calls that a record may name: document 01's.
+pub const CALLS: usize = 12;
 
 struct Script {
     sizes: Sizes,
@@ -33,7 +35,7 @@ fn read(bytes: &[u8]) -> Option<Script> {
     let mut records = Vec::new();
     for _ in 0..count {
         let number = next(&mut rest)?;
-        let arguments = *ARGUMENTS.get((number as usize).checked_sub(1)?)?;
+        let arguments = *ARGUMENTS[..CALLS].get((number as usize).checked_sub(1)?)?;
         let mut record = vec![number];
         for _ in 0..arguments {
             record.push(next(&mut rest)?);

@@ -103,7 +103,13 @@ fn descriptor_form(j: &Judged, p: &Partition) -> bool {
     pairs_form(j, p.descriptor, 0, 5)
         && word(j.mem, p.descriptor, PARENT - 1) == 0
         && j.is_physical(word(j.mem, p.descriptor, PARENT))
-        && j.zero(p.descriptor, PARENT + 1)
+        && flag_form(j, word(j.mem, p.descriptor, FLAG))
+        && j.zero(p.descriptor, FLAG + 1)
+}
+
+/// Document 02, L8: "0 or 1"; with large pages "word 12 stays 0".
+fn flag_form(j: &Judged, flag: u32) -> bool {
+    flag == 0 || flag == 1 && j.edition() == SMALL
 }
 
 fn list_form(j: &Judged, p: &Partition) -> bool {
@@ -123,10 +129,11 @@ fn tables_form(j: &Judged, p: &Partition) -> bool {
     })
 }
 
-// 2. The root's five pages are as format leaves them, and it maps exactly the flat pages.
+// 2. The root's five pages are as format leaves them but for its flag, and it maps exactly the flat pages.
 fn root_as_formatted(j: &Judged) -> bool {
     let mut fresh = vec![0; start(j.mem, PPage(FIRST_THREE))];
     fill_formatted(&mut fresh, j.sizes);
+    set_word(&mut fresh, ROOT_PAGE, FLAG, word(j.mem, ROOT_PAGE, FLAG));
     let root = Partition::at(j.mem, ROOT_PAGE);
     let five = start(j.mem, ROOT_PAGE)..start(j.mem, PPage(FIRST_THREE));
     let first = j.sizes.first_flat().0;

@@ -29,12 +29,15 @@ fn verdict(changes: &[Change]) -> Result<(), u32> {
 fn sentences() {
     // Pages 6, 7, 8 are the root's tables, 10 to 13 the first
     // child's directory, shadows and list.
-    let cases: [(&[Change], u32); 35] = [
+    let cases: [(&[Change], u32); 38] = [
         (&[(0, 0, 41)], 1),
         (&[(0, 1, 2)], 1),
         (&[(0, 4, 256 * 40)], 1),
         (&[(0, 63, 1)], 1),
-        (&[(9, 12, 1)], 1),
+        (&[(9, 12, 2)], 1),
+        (&[(1, 12, 2)], 1),
+        (&[(9, 13, 1)], 1),
+        (&[(1, 13, 1)], 1),
         (&[(10, 1, 0)], 1),
         (&[(6, 0, 256 * 9 + 31)], 1),
         (&[(6, 30, 256 * 38 + 30)], 1),
@@ -70,6 +73,9 @@ fn sentences() {
     for (changes, sentence) in cases {
         assert_eq!(verdict(changes), Err(sentence), "{changes:?}");
     }
+    // A live flag of 1, in the root and in a child, is sound.
+    assert_eq!(verdict(&[(1, 12, 1)]), Ok(()));
+    assert_eq!(verdict(&[(9, 12, 1)]), Ok(()));
     // Fewer rights in a leaf, and any word of a page in hand, are sound.
     assert_eq!(verdict(&[(14, 0, 256 * 17 + 3), (38, 5, 1), (17, 63, 9)]), Ok(()));
     assert_eq!(verdict(&[(0, 4, 256 * 28)]), Ok(()));
@@ -106,7 +112,7 @@ fn any_memory_is_refused_unchanged() {
             mem[index] = random.pick(&[0, 1, address, address + 1, address + 31, round * 0x0101_0101]).unwrap();
         }
         let damaged = sound(&mem).is_err();
-        for number in 0..=12 {
+        for number in 0..=ARGUMENTS.len() {
             let count = if number == 0 { 1 } else { ARGUMENTS[number - 1] };
             let arguments: Vec<u32> = (0..count).map(|_| 256 * random.below(5000) as u32).collect();
             let before = mem.clone();

@@ -2,6 +2,7 @@
 
 mod common;
 use common::*;
+use second::calls::perform;
 use second::geometry::*;
 use second::make::Work;
 use second::memory::{set_word, Partition, CURRENT, HEADER, PARENT};
@@ -86,15 +87,25 @@ fn pairs_of_each_kind_and_depth() {
 #[test]
 fn both_runs_are_the_same_to_it() {
     for edition in EDITIONS {
-        let mut random = Random::new(4);
+        let (mut random, mut parted) = (Random::new(4), 0);
         for depth in 1..=MOST_DEPTH {
             let mem = grown(edition, 50 + 18 * depth, depth, &mut random);
             for kind in KINDS {
                 let [mut one, mut other] = kind.pair(&mem, &mut random);
                 let around = alike(&one, &other).unwrap();
                 let own = around.own().partition.descriptor;
-                for line in calls_within(&mut one.clone(), &mut random, &[Work::Calls(60)]) {
-                    assert_eq!(say(&mut one, &line), say(&mut other, &line), "{kind:?} {line:?}");
+                let within = calls_within(&mut one.clone(), &mut random, &[Work::Talk, Work::Calls(60)]);
+                for line in within.into_iter().chain([vec![15, 0, 2]]) {
+                    let by_own = Partition::current(&one).descriptor == own;
+                    let said = [&mut one, &mut other].map(|mem| perform(mem, line[0], &line[1..]).unwrap());
+                    // The parent's slot page is not shown: one run may be refused while the other leaves B.
+                    let answers = said.map(|said| said.answer);
+                    if by_own && line == [15, 0, 2] && answers.contains(&Ok(0)) {
+                        assert!(answers.iter().all(|answer| matches!(answer, Ok(0) | Err(20))));
+                        parted += u32::from(answers[0] != answers[1]);
+                        break;
+                    }
+                    assert_eq!(said[0], said[1], "{kind:?} {line:?}");
                     assert_eq!(first_difference(&one, &other, &around.shown, true), None, "{kind:?} {line:?}");
                     for mem in [&one, &other] {
                         let now = Around::of(mem, own).unwrap();
@@ -103,5 +114,6 @@ fn both_runs_are_the_same_to_it() {
                 }
             }
         }
+        assert_eq!(parted > 0, edition == SMALL);
     }
 }

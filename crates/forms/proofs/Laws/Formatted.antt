@@ -1,10 +1,11 @@
 -- The root's words that format leaves, in the code's terms. Assumes nothing.
 use mathlib.Core.Path.{_≡_, refl, _∙_}
-use mathlib.Core.Bool.{cond}
+use mathlib.Core.Bool.{Bool, cond, _||_}
 use Prim.Native.Nat.{ℕ, zero, suc, _+_, _*_, _/_, _%_, _≤_}
 use native.Mathlib.Omega.{arith}
 use lib.Dec.{leb, eqb}
 use borrow.Author.Tests.{le-leb, lt-leb, le-ltb, ne-eqb}
+use Rattle.walk.specs.Finite.{from, all}
 use Rattle.memory.specs.Geometry.{address, threesFor}
 use Rattle.memory.specs.Format.{rootDescriptorWord, rootDirectoryWord, rootListWord}
 use Rattle.forms.proofs.Laws.Tests.{and-false}
@@ -28,6 +29,11 @@ descriptor-words b (suc (suc (suc (suc (suc (suc (suc (suc (suc (suc (suc (suc i
 -- past the first words there is nothing but 0
 pub descriptor-zeros : (b i : ℕ) → 10 ≤ i → rootDescriptorWord b i ≡ 0
 descriptor-zeros b i h = descriptor-words b i ∙ rw (le-leb 10 i h) refl
+
+-- the live flag passes
+pub flag-passes : (g : ℕ → Bool) → all (λ i. eqb i 12 || g i) (from 13 0) ≡ all (λ i. eqb i 12 || g i) (from 12 0)
+unfolding from all
+flag-passes g = refl
 
 pub directory-zeros : (b n k i : ℕ) → threesFor b n ≤ i → rootDirectoryWord b n k i ≡ 0
 directory-zeros b n k i h = rw (le-ltb i (threesFor b n) h) refl

@@ -2,9 +2,9 @@
 use mathlib.Core.Path.{_≡_, refl, sym, _∙_}
 use mathlib.Core.Bool.{Bool, true, false, not, _&&_, false≢true}
 use mathlib.Core.Logic.{_≢_}
-use Prim.Native.Nat.{ℕ}
+use Prim.Native.Nat.{ℕ, _≤_, _<_}
 use lib.Dec.{leb, ltb, eqb}
-use borrow.Author.Tests.{not-true, not-false, eq-eqb, ne-eqb}
+use borrow.Author.Tests.{not-true, not-false, le-leb, lt-leb, eq-eqb, ne-eqb}
 
 pub yes : {x f : Bool} → x ≡ f → not x ≡ false → f ≡ true
 yes {x} e t = sym e ∙ not-false x t
@@ -24,6 +24,12 @@ module _ {x y u v : ℕ} (e : x ≡ u) (q : y ≡ v) where
 
   pub same-leb : leb x y ≡ leb u v
   same-leb = rw (e, q)
+
+  pub within : x ≤ y → leb u v ≡ true
+  within h = sym same-leb ∙ le-leb x y h
+
+  pub beyond : y < x → leb u v ≡ false
+  beyond h = sym same-leb ∙ lt-leb x y h
 
   pub same-ltb : ltb x y ≡ ltb u v
   same-ltb = rw (e, q)

@@ -37,6 +37,8 @@ pub record Abs : Type 0 where
   pub rootp : Kind → ℕ → ℕ
   pub lstp : ℕ → ℕ
   pub threes : ℕ → List Three
+  -- the live flags
+  pub vcli : ℕ → ℕ
   pub cur : ℕ
 
 -- reading a chain
@@ -121,10 +123,14 @@ module _ (b : ℕ) where
   abbrev pub pair : (ℕ → List Hop) → ℕ → List ℕ → List ℕ
   pair ch q rest = addr b (headV (ch q)) ∷ addr b q ∷ rest
 
-  unfoldable pub descList : Abs → ℕ → List ℕ
-  descList A d =
+  -- a descriptor's twelve words, and what follows
+  abbrev pub descWords : Abs → ℕ → List ℕ → List ℕ
+  descWords A d rest =
       pair (A .chain) d (pair (A .chain) (A .rootp pt d) (pair (A .chain) (A .rootp s1 d) (pair (A .chain) (A .rootp s2 d) (pair (A .chain) (A .lstp d)
-      (0 ∷ addr b (headP (A .chain d)) ∷ [])))))
+      (0 ∷ addr b (headP (A .chain d)) ∷ rest)))))
+
+  unfoldable pub descList : Abs → ℕ → List ℕ
+  descList A d = descWords A d (A .vcli d ∷ [])
 
   unfoldable pub listPairs : (ℕ → List Hop) → List Three → List ℕ
   listPairs ch [] = []

@@ -164,7 +164,7 @@ module _ {b : ℕ} (wide : 6 ≤ b) where
 
 -- the state with other chains and maps
 abbrev pub rechain : Abs → (ℕ → List Hop) → (ℕ → ℕ → Option ℕ) → Abs
-rechain A ch mp = record { role = A .role; chain = ch; maps = mp; rootp = A .rootp; lstp = A .lstp; threes = A .threes; cur = A .cur }
+rechain A ch mp = record { role = A .role; chain = ch; maps = mp; rootp = A .rootp; lstp = A .lstp; threes = A .threes; vcli = A .vcli; cur = A .cur }
 
 module _ {b : ℕ} (wide : 6 ≤ b) where
   -- a word of a table set by its place in the tables

@@ -80,7 +80,7 @@ module _ (N T : ℕ) where
   upTo (suc n) = upTo n ++ three0 n ∷ []
 
   unfoldable pub start : Abs
-  start = record { role = role0; chain = chain0; maps = maps0; rootp = rootp0; lstp = λ d. 5; threes = λ d. pick (eqd d 1) (upTo T) []; cur = 1 }
+  start = record { role = role0; chain = chain0; maps = maps0; rootp = rootp0; lstp = λ d. 5; threes = λ d. pick (eqd d 1) (upTo T) []; vcli = λ d. 0; cur = 1 }
 
   -- lookups among the threes
   pub at-above : (n i : ℕ) → n ≤ i → threeAt i (upTo n) ≡ none

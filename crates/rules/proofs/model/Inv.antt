@@ -7,7 +7,7 @@ use mathlib.Core.Option.{Option}
 use Prim.Native.Nat.{ℕ, _+_, _*_, _≤_, _<_}
 use native.Mathlib.Omega.{arith}
 use lib.ListN.{getD}
-use Rattle.memory.specs.Geometry.{editionOf, address, threesFor, leastPages, mostPages}
+use Rattle.memory.specs.Geometry.{editionOf, mostFlag, address, threesFor, leastPages, mostPages}
 use Rattle.memory.specs.Partition.{pages, current}
 use Rattle.rules.proofs.model.Words.{W, word, pageOf, pageOf-addr, twelve-lt}
 use Rattle.rules.proofs.model.Abs.{Kind, Role, blank, desc, Abs, WF, Encodes, isHand, cell, roleWord, headList}
@@ -33,6 +33,7 @@ module _ (b : ℕ) where
     pub wf : WF b N (flat0 N (threesFor b N)) state
     pub full : (p : ℕ) → state .role p ≢ blank
     pub root : RootKept N (threesFor b N) state
+    pub flags : (d : ℕ) → state .vcli d ≤ mostFlag b
     pub words : Encodes b N (fixed N) m state
 
   -- its parts, by the names that the steps open them with
@@ -41,8 +42,9 @@ module _ (b : ℕ) where
 
   -- another memory and state of as many pages
   pub moved : {m : List ℕ} (i : Inv m) (m′ : List ℕ) (A : Abs) → WF b (i .N) (flat0 (i .N) (threesFor b (i .N))) A → ((p : ℕ) → A .role p ≢ blank)
-      → RootKept (i .N) (threesFor b (i .N)) A → Encodes b (i .N) (fixed (i .N)) m′ A → Inv m′
-  moved i m′ A wf full root words = record { N = i .N; least = i .least; most = i .most; state = A; wf = wf; full = full; root = root; words = words }
+      → RootKept (i .N) (threesFor b (i .N)) A → ((d : ℕ) → A .vcli d ≤ mostFlag b) → Encodes b (i .N) (fixed (i .N)) m′ A → Inv m′
+  moved i m′ A wf full root flags words =
+      record { N = i .N; least = i .least; most = i .most; state = A; wf = wf; full = full; root = root; flags = flags; words = words }
 
 module _ {b : ℕ} (wide : 6 ≤ b) (m : List ℕ) (i : Inv b m) where
   -- the header's words

@@ -34,7 +34,16 @@ owner-free (lst x) q d e o = true-false e refl
 owner-free (tab k x i) q d e o = true-false e refl
 
 abbrev pub setRole : Abs → ℕ → Role → Abs
-setRole A p R = record { role = upd (A .role) p R; chain = A .chain; maps = A .maps; rootp = A .rootp; lstp = A .lstp; threes = A .threes; cur = A .cur }
+setRole A p R = record {
+  role = upd (A .role) p R;
+  chain = A .chain;
+  maps = A .maps;
+  rootp = A .rootp;
+  lstp = A .lstp;
+  threes = A .threes;
+  vcli = A .vcli;
+  cur = A .cur;
+}
 
 module _ {b : ℕ} (wide : 6 ≤ b) where
   pub tabs-map : (f g : ℕ → Role) (d : ℕ) (ts : List Three) → ((k : Kind) (i q : ℕ) → f q ≡ tab k d i → g q ≡ tab k d i) → Tabs b f d ts → Tabs b g d ts

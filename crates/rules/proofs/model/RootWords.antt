@@ -13,9 +13,12 @@ use lib.Dec.{eqb, leb}
 use lib.ListN.{length, getD}
 use Rattle.memory.specs.Geometry.{threesFor}
 use Rattle.memory.specs.Format.{formatWord, rootDescriptorWord, rootDirectoryWord, rootListWord}
+use Rattle.memory.specs.Sound.{RootFlag}
 use Rattle.rules.proofs.model.Base.{eqd}
 use Rattle.rules.proofs.model.Words.{addr, addr-zero, link}
-use Rattle.rules.proofs.model.Abs.{Kind, pt, s1, s2, root, lst, tab, Hop, Three, Abs, parts, headV, threeAt, Owner, WF, Cells, linkWord, descList, listList, roleWord}
+use Rattle.rules.proofs.model.Abs.{Kind, pt, s1, s2, root, lst, tab, Hop, Three, Abs, parts, headV, threeAt, Owner, WF, Cells, linkWord}
+use Rattle.rules.proofs.model.Abs.{descWords, descList, listList, roleWord}
+use Rattle.rules.proofs.model.Flags.{desc-other, desc-clear}
 use Rattle.rules.proofs.model.Facts.{nil-cons}
 use Rattle.rules.proofs.model.Format.{kindAt, kindNo, kind-no, three0, upTo, at-above, at-below, length-upTo}
 use Rattle.rules.proofs.model.Inv.{RootKept}
@@ -115,8 +118,8 @@ module _ {b : ℕ} (wide : 6 ≤ b) (N : ℕ) where
     list-free-chain : A .chain (A .lstp 1) ≡ []
     list-free-chain = let r : A .role (A .lstp 1) ≡ lst 1 = wf .lst-role 1 (wf .root-live) in top-chain (A .lstp 1) (rw r refl)
 
-    descriptor-list : descList b A 1 ≡ 0 ∷ addr b 1 ∷ 0 ∷ addr b 2 ∷ 0 ∷ addr b 3 ∷ 0 ∷ addr b 4 ∷ 0 ∷ addr b 5 ∷ 0 ∷ 0 ∷ []
-    unfolding descList kindNo
+    descriptor-list : descWords b A 1 [] ≡ 0 ∷ addr b 1 ∷ 0 ∷ addr b 2 ∷ 0 ∷ addr b 3 ∷ 0 ∷ addr b 4 ∷ 0 ∷ addr b 5 ∷ 0 ∷ 0 ∷ []
+    unfolding kindNo
     descriptor-list =
         rw (
           no-virtual 1 (wf .root-top),
@@ -132,9 +135,17 @@ module _ {b : ℕ} (wide : 6 ≤ b) (N : ℕ) where
           addr-zero wide,
         ) refl
 
-    descriptor-words : (j : ℕ) → getD (descList b A 1) j 0 ≡ rootDescriptorWord b j
+    twelve-words : (j : ℕ) → getD (descWords b A 1 []) j 0 ≡ rootDescriptorWord b j
     unfolding addr
-    descriptor-words j = ap (λ (ws : List ℕ). getD ws j 0) descriptor-list
+    twelve-words j = ap (λ (ws : List ℕ). getD ws j 0) descriptor-list
+
+    -- format leaves the flag 0
+    descriptor-words : (j : ℕ) → (j ≡ 12 → A .vcli 1 ≡ 0) → getD (descList b A 1) j 0 ≡ rootDescriptorWord b j
+    descriptor-words j h = go (eqd j 12)
+      where
+        go : Dec (j ≡ 12) → getD (descList b A 1) j 0 ≡ rootDescriptorWord b j
+        go (yes e) = desc-clear b A 1 (h e) j ∙ twelve-words j
+        go (no n) = desc-other b A 1 j n ∙ twelve-words j
 
     table-chain : (j : ℕ) → j < 3 * T → A .chain (6 + j) ≡ []
     table-chain j l =
@@ -151,13 +162,13 @@ module _ {b : ℕ} (wide : 6 ≤ b) (N : ℕ) where
     root-words k j = rw (root-role k, rk .threes) (directory-words k j)
 
     -- the root's five pages
-    pub five-words : (p : ℕ) → p < 5 → (j : ℕ) → roleWord b f A C (A .role (1 + p)) (1 + p) j ≡ formatWord b N (1 + p) j
+    pub five-words : (p : ℕ) → p < 5 → (j : ℕ) → (RootFlag p j → A .vcli 1 ≡ 0) → roleWord b f A C (A .role (1 + p)) (1 + p) j ≡ formatWord b N (1 + p) j
     unfolding roleWord formatWord kindNo
-    five-words zero l j = rw (wf .root-live) (descriptor-words j)
-    five-words (suc zero) l j = root-words pt j
-    five-words (suc (suc zero)) l j = root-words s1 j
-    five-words (suc (suc (suc zero))) l j = root-words s2 j
-    five-words (suc (suc (suc (suc zero)))) l j =
+    five-words zero l j h = rw (wf .root-live) (descriptor-words j (λ e. h (refl, e)))
+    five-words (suc zero) l j h = root-words pt j
+    five-words (suc (suc zero)) l j h = root-words s1 j
+    five-words (suc (suc (suc zero))) l j h = root-words s2 j
+    five-words (suc (suc (suc (suc zero)))) l j h =
         let r : A .role 5 ≡ lst 1 = ap (A .role) (sym (rk .list)) ∙ wf .lst-role 1 (wf .root-live) in
         rw (r, rk .threes) (list-words (A .chain) table-chain j)
-    five-words (suc (suc (suc (suc (suc p))))) l j = absurd (omega arith)
+    five-words (suc (suc (suc (suc (suc p))))) l j h = absurd (omega arith)

@@ -7,7 +7,7 @@ use Prim.Native.Nat.{ℕ, _+_, _*_, _≤_, _<_}
 use native.Mathlib.Omega.{arith}
 use native.Mathlib.Decide.{decLt}
 use lib.ListN.{length, getD, List·getD-eq-default}
-use Rattle.memory.specs.Geometry.{pageWords, address, threesFor}
+use Rattle.memory.specs.Geometry.{mostFlag, pageWords, address, threesFor}
 use Rattle.memory.specs.Words as Mem
 use Rattle.memory.specs.Partition
 use Rattle.memory.specs.Tree.{Virtual, Physical, Has, InTree}
@@ -69,6 +69,7 @@ module _ {b : ℕ} (wide : 6 ≤ b) (m : List ℕ) (i : Inv b m) where
       );
       zero = descriptor-word wide m i d 10 l (room wide m i 10 (omega arith));
       parent = subst (Physical b m) (sym (descriptor-word wide m i d 11 l (room wide m i 11 (omega arith)))) (physical wide m i (headP (A .chain d)) parent-fits);
+      flag = subst (λ (x : ℕ). x ≤ mostFlag b) (sym (descriptor-word wide m i d 12 l (room wide m i 12 (omega arith)))) (i .flags d);
       rest = λ j k n. descriptor-word wide m i d j l k ∙ List·getD-eq-default (descList b A d) 0 n;
     }
 

@@ -11,7 +11,7 @@ use Rattle.memory.specs.Words as Mem
 use Rattle.memory.specs.Partition
 use Rattle.memory.specs.Format.{formatWord}
 use Rattle.memory.specs.Tree.{Has}
-use Rattle.memory.specs.Sound.{Root}
+use Rattle.memory.specs.Sound.{RootFlag, Root}
 use Rattle.rules.proofs.model.Base.{pick-yes, pick-no}
 use Rattle.rules.proofs.model.Words.{addr, addr-zero, pageOf}
 use Rattle.rules.proofs.model.Abs.{pt, s1, s2, parts, headV, Seen, isHand, cell, Up}
@@ -58,11 +58,11 @@ module _ {b : ℕ} (wide : 6 ≤ b) (m : List ℕ) (i : Inv b m) where
   five-is (suc (suc (suc (suc zero)))) l = i .root .list
   five-is (suc (suc (suc (suc (suc p))))) l = absurd (omega arith)
 
-  root-five : (p : ℕ) → p < 5 → (j : ℕ) → j < Geometry.pageWords b → Mem.word b m (1 + p) j ≡ formatWord b N (1 + p) j
-  root-five p l j k =
+  root-five : (p : ℕ) → p < 5 → (j : ℕ) → j < Geometry.pageWords b → ¬ RootFlag p j → Mem.word b m (1 + p) j ≡ formatWord b N (1 + p) j
+  root-five p l j k n =
       let r : A .role (1 + p) ≡ fiveRole 1 p = ap (A .role) (sym (five-is p l)) ∙ five-role wide m i 1 (i .wf .root-live) p l in
       kernel-word wide m i (1 + p) j (A .role (1 + p)) refl (ap isHand r ∙ five-kernel 1 p) k
-      ∙ five-words wide N (flat0 N T) A (i .wf) (i .root) (fixed b N) (cell b A) p l j
+      ∙ five-words wide N (flat0 N T) A (i .wf) (i .root) (fixed b N) (cell b A) p l j (λ x. absurd (n x))
 
   -- a page of the root, with its one hop
   root-mapping : (v p : ℕ) → flat0 N T (pageOf b v) ≡ some p → (s : Seen) × Mapping b m A 1 v p s × (s .rt ≡ 7) × (s .up ≡ 0)
@@ -91,7 +91,7 @@ module _ {b : ℕ} (wide : 6 ≤ b) (m : List ℕ) (i : Inv b m) where
   sound-root =
       let e : Partition.pages b m ≡ N = pages-is wide m i in
       record {
-        five = λ p l j k. root-five p l j k ∙ ap (λ (x : ℕ). formatWord b x (1 + p) j) (sym e);
+        five = λ p l j k n. root-five p l j k n ∙ ap (λ (x : ℕ). formatWord b x (1 + p) j) (sym e);
         maps = λ v h f.
             let x = root-mapping v (5 + 3 * T + pageOf b v) (flat-some N T (pageOf b v) (flat-fits (pageOf b v) f)) in
             (x .1 .page ∙ ap (λ (y : ℕ). 5 + 3 * Geometry.threesFor b y + pageOf b v) (sym e), x .1 .rights ∙ x .2);

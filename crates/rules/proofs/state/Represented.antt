@@ -7,13 +7,13 @@ use Prim.Native.Nat.{ℕ, zero, suc, _+_, _-_, _*_, _/_, _%_, _≤_, _<_}
 use native.Mathlib.Omega.{arith}
 use native.Mathlib.Decide.{decLt}
 use lib.ListN.{length, getD}
-use Rattle.memory.specs.Geometry.{pageWords, address, pageOf, directoryIndex, tableIndex, threesFor}
+use Rattle.memory.specs.Geometry.{pageWords, address, pageOf, directoryIndex, tableIndex, threesFor, mostFlag}
 use Rattle.memory.specs.Words.{word}
 use Rattle.memory.specs.Entry.{entry, rights}
-use Rattle.memory.specs.Partition.{pages, directory, list, threes, tableAt, tableWord, mapping}
+use Rattle.memory.specs.Partition.{pages, directory, list, threes, tableAt, tableWord, mapping, flag}
 use Rattle.memory.specs.Tree.{Has, Child, InTree, root, child}
 use Rattle.memory.specs.Uses.{five, listed, fivePages, isFive, isListed}
-use Rattle.memory.specs.Sound.{Stands, Forms, Sound}
+use Rattle.memory.specs.Sound.{RootFlag, Stands, Forms, Sound}
 use Rattle.memory.proofs.Geometry.{page-address}
 use Rattle.memory.proofs.Tables.{tableWord-present}
 use Rattle.rules.proofs.model.Base.{eqd}
@@ -23,12 +23,13 @@ use Rattle.rules.proofs.model.Abs.{Kind, pt, s1, s2, Role, header, hand
 use Rattle.rules.proofs.model.Abs.{cell, seenWord, linkWord, descList, listList, headList, roleWord}
 use Rattle.rules.proofs.model.Abs as Abs
 use Rattle.rules.proofs.model.Facts.{not-hand}
+use Rattle.rules.proofs.model.Flags.{flag-word}
 use Rattle.rules.proofs.model.Read.{cell-none, cell-some}
 use Rattle.rules.proofs.model.Format.{kindNo, flat0}
 use Rattle.rules.proofs.model.Inv.{fixed, Inv}
 use Rattle.rules.proofs.model.Listing.{pageAt, list-free, list-virtual, list-physical, list-rest}
 use Rattle.rules.proofs.model.RootWords.{five-words}
-use Rattle.rules.proofs.state.State.{listedAddress, listedPage, three, rootPage, state}
+use Rattle.rules.proofs.state.State.{listedAddress, listedPage, three, rootPage, flagAs, state}
 use Rattle.rules.proofs.state.Used.{live, live-tree, role-head, chain-head, past, root-used, root-of, list-used, list-of, table-of}
 use Rattle.rules.proofs.state.Used.{five-used, listed-used}
 use Rattle.rules.proofs.state.Hops.{hops-part, hops-virtual}
@@ -124,11 +125,32 @@ module _ {b : ℕ} (wide : 6 ≤ b) (m : List ℕ) (s : Sound b m) where
       go (yes z) = none-there x z ∙ ap (linkWord b x) (sym (three-none wide m s t i l z))
       go (no z) = let (j, h, e, f) = three-at wide m s t i l z in linked j h e x ∙ ap (linkWord b x) (sym f)
 
+  -- ---- the live flags (document 02, L8)
+
+  flag-live : (d : ℕ) → A .role d ≡ desc → A .vcli d ≡ flag b m d
+  unfolding flagAs
+  flag-live d e = ap (λ (r : Role). flagAs b m s r d) e
+
+  flags-small : (d : ℕ) → A .vcli d ≤ mostFlag b
+  unfolding flagAs
+  flags-small d = go (A .role d) refl
+    where
+      go : (r : Role) → A .role d ≡ r → flagAs b m s r d ≤ mostFlag b
+      go header e = omega arith
+      go hand e = omega arith
+      go blank e = omega arith
+      go desc e = let (k, t) = live-tree wide m s d e in s .forms k d t .descriptor .flag
+      go (Abs.root x c) e = omega arith
+      go (lst c) e = omega arith
+      go (tab x c i) e = omega arith
+
   -- ---- the words of descriptors and lists: the root's are known from format, a child's agree with its parent's tables
 
-  -- the root's own pages are as format leaves them
-  top-words : (p : ℕ) → p < 5 → (j : ℕ) → j < pageWords b → word b m (1 + p) j ≡ said (A .role (1 + p)) (1 + p) j
-  top-words p l j h = s .rootAsFormatted .five p l j h ∙ sym (five-words wide N (flat0 N T) A formed (rooted wide m s) (fixed b N) (cell b A) p l j)
+  -- the root's own pages are as format leaves them, but for its live flag
+  top-words : (p : ℕ) → p < 5 → (j : ℕ) → j < pageWords b → ¬ RootFlag p j → word b m (1 + p) j ≡ said (A .role (1 + p)) (1 + p) j
+  top-words p l j h n =
+      s .rootAsFormatted .five p l j h n
+      ∙ sym (five-words wide N (flat0 N T) A formed (rooted wide m s) (fixed b N) (cell b A) p l j (λ x. absurd (n x)))
 
   module _ {k d w c : ℕ} (t : InTree b m k d) (a : Child b m d w c) where
     forms : Forms b m c
@@ -164,7 +186,8 @@ module _ {b : ℕ} (wide : 6 ≤ b) (m : List ℕ) (s : Sound b m) where
     descriptor-child (suc (suc (suc (suc (suc (suc (suc (suc (suc zero))))))))) l = pair-physical 4 (A .lstp c) (omega arith) refl
     descriptor-child (suc (suc (suc (suc (suc (suc (suc (suc (suc (suc zero)))))))))) l = forms .descriptor .zero
     descriptor-child (suc (suc (suc (suc (suc (suc (suc (suc (suc (suc (suc zero))))))))))) l = parent-word
-    descriptor-child (suc (suc (suc (suc (suc (suc (suc (suc (suc (suc (suc (suc j)))))))))))) l = forms .descriptor .rest _ l (omega arith)
+    descriptor-child (suc (suc (suc (suc (suc (suc (suc (suc (suc (suc (suc (suc zero)))))))))))) l = sym (flag-live c (live wide m s (child t a)))
+    descriptor-child (suc (suc (suc (suc (suc (suc (suc (suc (suc (suc (suc (suc (suc j))))))))))))) l = forms .descriptor .rest _ l (omega arith)
 
     abbrev ts : List Three
     ts = A .threes c
@@ -276,14 +299,18 @@ module _ {b : ℕ} (wide : 6 ≤ b) (m : List ℕ) (s : Sound b m) where
   says q j l h n = go (A .role q) refl
     where
       of-part : {k d : ℕ} → InTree b m k d → word b m d j ≡ getD (descList b A d) j 0
-      of-part root = top-words 0 (omega arith) j h ∙ ap (λ (r : Role). said r 1 j) (live wide m s root)
+      of-part root = of-root (eqd j 12)
+        where
+          of-root : Dec (j ≡ 12) → word b m 1 j ≡ getD (descList b A 1) j 0
+          of-root (yes e) = rw e (sym (flag-word b A 1 ∙ flag-live 1 (live wide m s root)))
+          of-root (no o) = top-words 0 (omega arith) j h (λ x. o (x .1)) ∙ ap (λ (r : Role). said r 1 j) (live wide m s root)
       of-part (child t a) = descriptor-child t a j h
 
       of-list : {k d : ℕ} → InTree b m k d → word b m (list b m d) j ≡ getD (listList b (A .chain) (A .threes d)) j 0
       of-list root =
           let e : list b m 1 ≡ 5 = rooted wide m s .list in
           let r : A .role 5 ≡ lst 1 = ap (A .role) (sym e) ∙ list-used wide m s root in
-          ap (λ (x : ℕ). word b m x j) e ∙ top-words 4 (omega arith) j h ∙ ap (λ (x : Role). said x 5 j) r
+          ap (λ (x : ℕ). word b m x j) e ∙ top-words 4 (omega arith) j h (λ x. omega (arith, x .0)) ∙ ap (λ (x : Role). said x 5 j) r
       of-list (child t a) = list-child t a j h
 
       go : (r : Role) → A .role q ≡ r → word b m q j ≡ said (A .role q) q j
@@ -309,5 +336,6 @@ module _ {b : ℕ} (wide : 6 ≤ b) (m : List ℕ) (s : Sound b m) where
     wf = formed;
     full = full wide m s;
     root = rooted wide m s;
+    flags = flags-small;
     words = record { sized = s .header .size; says = says };
   }

@@ -78,9 +78,9 @@ module _ {b : ℕ} (wide : 6 ≤ b) (m : List ℕ) (s : Sound b m) where
   -- page 2 is the directory, pages 3 and 4 are the shadows
   directory-words : (k i : ℕ) → k < 3 → i < T → word b m (2 + k) i ≡ address b (6 + 3 * i + k) + 1
   unfolding formatWord
-  directory-words zero i h l = s .rootAsFormatted .five 1 (omega arith) i (wide-enough i l) ∙ (rw (lt-ltb i T l) refl)
-  directory-words (suc zero) i h l = s .rootAsFormatted .five 2 (omega arith) i (wide-enough i l) ∙ (rw (lt-ltb i T l) refl)
-  directory-words (suc (suc zero)) i h l = s .rootAsFormatted .five 3 (omega arith) i (wide-enough i l) ∙ (rw (lt-ltb i T l) refl)
+  directory-words zero i h l = s .rootAsFormatted .five 1 (omega arith) i (wide-enough i l) (λ x. omega (arith, x .0)) ∙ (rw (lt-ltb i T l) refl)
+  directory-words (suc zero) i h l = s .rootAsFormatted .five 2 (omega arith) i (wide-enough i l) (λ x. omega (arith, x .0)) ∙ (rw (lt-ltb i T l) refl)
+  directory-words (suc (suc zero)) i h l = s .rootAsFormatted .five 3 (omega arith) i (wide-enough i l) (λ x. omega (arith, x .0)) ∙ (rw (lt-ltb i T l) refl)
   directory-words (suc (suc (suc k))) i h l = absurd (omega arith)
 
   stand-word : (k i r : ℕ) → k < 3 → i < T → r ≡ 2 + k → word b m r i ≡ word b m (list b m 1) (2 * k + 2 + 6 * i) + 1

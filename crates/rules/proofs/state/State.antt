@@ -7,7 +7,7 @@ use native.Mathlib.Decide.{decLt}
 use Rattle.memory.specs.Geometry.{pageWords, address, pageOf, directoryIndex, mostDepth}
 use Rattle.memory.specs.Words.{word}
 use Rattle.memory.specs.Entry.{rights}
-use Rattle.memory.specs.Partition.{pages, current, directory, shadow1, shadow2, list, parent, threes, mapping, above}
+use Rattle.memory.specs.Partition.{pages, current, directory, shadow1, shadow2, list, parent, flag, threes, mapping, above}
 use Rattle.memory.specs.Uses.{Way, five, listed, inHand, Use}
 use Rattle.memory.specs.Sound.{Stands, Sound}
 use Rattle.rules.proofs.model.Base.{eqd, pick}
@@ -136,6 +136,16 @@ module _ (b : ℕ) (m : List ℕ) where
     unfoldable pub chain : ℕ → List Hop
     chain p = hopsUsed (useOf p)
 
+    -- the live flag of a page that is no descriptor counts as 0
+    unfoldable pub flagAs : Role → ℕ → ℕ
+    flagAs header d = 0
+    flagAs hand d = 0
+    flagAs blank d = 0
+    flagAs desc d = flag b m d
+    flagAs (root k e) d = 0
+    flagAs (lst e) d = 0
+    flagAs (tab k e i) d = 0
+
     abbrev pub state : Abs
     state = record {
       role = role;
@@ -144,5 +154,6 @@ module _ (b : ℕ) (m : List ℕ) where
       rootp = rootPage;
       lstp = list b m;
       threes = threesOf;
+      vcli = λ d. flagAs (role d) d;
       cur = current b m;
     }

@@ -34,7 +34,16 @@ abbrev pub newHop : ℕ → ℕ → ℕ → Hop
 newHop c t r = record { part = c; vp = t; rt = r }
 
 abbrev pub addA : Abs → ℕ → ℕ → ℕ → ℕ → Abs
-addA A p c t r = record { role = A .role; chain = upd (A .chain) p (newHop c t r ∷ A .chain p); maps = upd2 (A .maps) c t (some p); rootp = A .rootp; lstp = A .lstp; threes = A .threes; cur = A .cur }
+addA A p c t r = record {
+  role = A .role;
+  chain = upd (A .chain) p (newHop c t r ∷ A .chain p);
+  maps = upd2 (A .maps) c t (some p);
+  rootp = A .rootp;
+  lstp = A .lstp;
+  threes = A .threes;
+  vcli = A .vcli;
+  cur = A .cur;
+}
 
 module _ {b : ℕ} (wide : 6 ≤ b) where
   module _ (N : ℕ) (fl : ℕ → Option ℕ) (A : Abs) (wf : WF b N fl A) (o p c t r : ℕ) (pre : AddPre b A o p c t r) where

@@ -79,7 +79,16 @@ unfoldable pub collRole : Abs → Three → ℕ → Role
 collRole A t = upd (upd (upd (A .role) (t .page s2) blank) (t .page s1) blank) (t .page pt) blank
 
 abbrev pub collA : Abs → ℕ → ℕ → Three → Abs
-collA A c i t = record { role = collRole A t; chain = A .chain; maps = A .maps; rootp = A .rootp; lstp = A .lstp; threes = upd (A .threes) c (without i (A .threes c)); cur = A .cur }
+collA A c i t = record {
+  role = collRole A t;
+  chain = A .chain;
+  maps = A .maps;
+  rootp = A .rootp;
+  lstp = A .lstp;
+  threes = upd (A .threes) c (without i (A .threes c));
+  vcli = A .vcli;
+  cur = A .cur;
+}
 
 module _ {b : ℕ} (wide : 6 ≤ b) where
   module _ (N : ℕ) (fl : ℕ → Option ℕ) (A : Abs) (wf : WF b N fl A) (c i : ℕ) (t : Three) (pre : CollPre b A c i t) where

@@ -210,6 +210,7 @@ module _ {b : ℕ} (wide : 6 ≤ b) (m : List ℕ) (i : Inv b m) (c t : ℕ) (fd
     wf = collected .0;
     full = collected-full;
     root = record { roots = i .root .roots; list = i .root .list; threes = upd-other (A .threes) d (without x (A .threes d)) 1 (fd .child .below) ∙ i .root .threes };
+    flags = i .flags;
     words = collected .1;
   }
 

@@ -10,7 +10,7 @@ use lib.ListN.{length}
 use Rattle.rules.specs.Moves.{takePage, takeAll}
 use Rattle.rules.proofs.model.Base.{eqd, pick, pick-yes, pick-no, upd, upd-same, upd-other}
 use Rattle.rules.proofs.model.Words.{W, addr, word, put, idx, off, pageOf, accOf, pageOf-addr, putL, twelve-lt}
-use Rattle.rules.proofs.model.Abs.{Kind, pt, s1, s2, blank, desc, Hop, Abs, headV, headP, Good, WF, Encodes, isHand, cell, descList}
+use Rattle.rules.proofs.model.Abs.{Kind, pt, s1, s2, blank, desc, Hop, Abs, headV, headP, Good, WF, Encodes, isHand, cell, descWords}
 use Rattle.rules.proofs.model.Apart.{pt-s1, pt-s2, s1-s2}
 use Rattle.rules.proofs.model.Facts.{differ, length-parts, not-root}
 use Rattle.rules.proofs.model.Read.{tablePage, entryAt, entry-is, kernel-lt}
@@ -207,8 +207,10 @@ module _ {b : ℕ} (wide : 6 ≤ b) where
       head-v : (x p : ℕ) → Held A o x p → headV (A .chain p) ≡ x
       head-v x p h = ap headV (h .is) ∙ h .vp
 
-      desc-is : descList b (fillA A5 D P L) D ≡ addr b v ∷ addr b D ∷ addr b (vr pt) ∷ addr b (P pt) ∷ addr b (vr s1) ∷ addr b (P s1) ∷ addr b (vr s2) ∷ addr b (P s2) ∷ addr b w ∷ addr b L ∷ 0 ∷ addr b o ∷ []
-      unfolding descList
+      desc-is :
+          descWords b (fillA A5 D P L) D []
+          ≡ addr b v ∷ addr b D ∷ addr b (vr pt) ∷ addr b (P pt) ∷ addr b (vr s1) ∷ addr b (P s1) ∷ addr b (vr s2) ∷ addr b (P s2) ∷ addr b w ∷ addr b L
+          ∷ 0 ∷ addr b o ∷ []
       desc-is =
           rw (
             upd-same (A .rootp pt) D (P pt),
@@ -230,9 +232,9 @@ module _ {b : ℕ} (wide : 6 ≤ b) where
       unfolding createM
       create-is = rw (page-is v D (ck .v-hand) hD, page-is (vr pt) (P pt) (ck .vr-hand pt) (hP pt), page-is (vr s1) (P s1) (ck .vr-hand s1) (hP s1), page-is (vr s2) (P s2) (ck .vr-hand s2) (hP s2), page-is w L (ck .w-hand) hL) refl
 
-      fill-is : fillM wide N fl f A5 (taken .0) o D P L fill-pre m5 ≡ done (descList b (fillA A5 D P L) D) v
+      fill-is : fillM wide N fl f A5 (taken .0) o D P L fill-pre m5 ≡ done (descWords b (fillA A5 D P L) D []) v
       unfolding fillM fill-pre first
-      fill-is = ap (done (descList b (fillA A5 D P L) D)) (hD .vp)
+      fill-is = ap (done (descWords b (fillA A5 D P L) D [])) (hD .vp)
 
       -- the root's pages are as they were
       D-root : 1 ≢ D

@@ -99,7 +99,16 @@ unfoldable pub delMaps : Abs → ℕ → ℕ → ℕ → Option ℕ
 delMaps A D d v = fateMap (fate A D d) (A .maps d v)
 
 abbrev pub delA : Abs → ℕ → Abs
-delA A D = record { role = delRole A D; chain = λ q. cut D (A .chain q); maps = delMaps A D; rootp = A .rootp; lstp = A .lstp; threes = A .threes; cur = A .cur }
+delA A D = record {
+  role = delRole A D;
+  chain = λ q. cut D (A .chain q);
+  maps = delMaps A D;
+  rootp = A .rootp;
+  lstp = A .lstp;
+  threes = A .threes;
+  vcli = A .vcli;
+  cur = A .cur;
+}
 
 pub record DelPre (A : Abs) (o D : ℕ) : Type 0 where
   pub child : A .role D ≡ desc

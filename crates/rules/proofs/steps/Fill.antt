@@ -38,7 +38,16 @@ unfoldable pub fillRole : Abs → ℕ → (Kind → ℕ) → ℕ → ℕ → Rol
 fillRole A D P L = upd (upd (upd (upd (upd (A .role) (P s2) (root s2 D)) (P s1) (root s1 D)) (P pt) (root pt D)) L (lst D)) D desc
 
 abbrev pub fillA : Abs → ℕ → (Kind → ℕ) → ℕ → Abs
-fillA A D P L = record { role = fillRole A D P L; chain = A .chain; maps = A .maps; rootp = λ k. upd (A .rootp k) D (P k); lstp = upd (A .lstp) D L; threes = upd (A .threes) D []; cur = A .cur }
+fillA A D P L = record {
+  role = fillRole A D P L;
+  chain = A .chain;
+  maps = A .maps;
+  rootp = λ k. upd (A .rootp k) D (P k);
+  lstp = upd (A .lstp) D L;
+  threes = upd (A .threes) D [];
+  vcli = upd (A .vcli) D 0;
+  cur = A .cur;
+}
 
 -- what a page is afterwards
 pub data FillView (A : Abs) (D : ℕ) (P : Kind → ℕ) (L q : ℕ) (r : Role) : Type 0 where

@@ -6,10 +6,13 @@ use mathlib.Core.Option.{Option, none, some}
 use mathlib.Core.List.{List, [], _∷_}
 use Prim.Native.Nat.{ℕ, _≤_, _<_}
 use native.Mathlib.Omega.{arith}
-use lib.ListN.{length, getD}
+use lib.ListN.{getD}
 use Rattle.rules.proofs.model.Base.{eqd, both, upd-same, upd-other}
 use Rattle.rules.proofs.model.Words.{W, word, put, idx, off, pte, putL, putL-sized, putL-other, putL-same, twelve-lt}
-use Rattle.rules.proofs.model.Abs.{Kind, pt, s1, s2, Role, header, hand, blank, desc, root, lst, tab, Hop, Three, Abs, headV, Seen, seek, threeAt, Good, WF, Cells, Encodes, EncodesC, isHand, ownWord, lentWord, seenWord, cell, roleWord, descList, headList, listList, listPairs, linkWord}
+use Rattle.rules.proofs.model.Abs.{Kind, pt, s1, s2, Role, header, hand, blank, desc, root, lst, tab, Hop, Three, Abs, headV, Seen, seek}
+use Rattle.rules.proofs.model.Abs.{threeAt, Good, WF, Cells, Encodes, EncodesC, isHand, ownWord, lentWord, seenWord, cell, roleWord, descWords}
+use Rattle.rules.proofs.model.Abs.{descList, headList, listList, listPairs, linkWord}
+use Rattle.rules.proofs.model.Flags.{desc-clear}
 use Rattle.rules.proofs.model.Apart.{pt-s1, s1-s2}
 use Rattle.rules.proofs.model.Facts.{seek-here, differ, Top, top}
 use Rattle.rules.proofs.model.Read.{tablePage, entry-three, kernel-lt, cell-none, cell-some}
@@ -41,7 +44,14 @@ module _ {b : ℕ} (wide : 6 ≤ b) where
 
     desc-same : (q : ℕ) → q ≢ D → descList b A q ≡ descList b B q
     unfolding descList
-    desc-same q n = rw (upd-other (A .rootp pt) D (P pt) q n, upd-other (A .rootp s1) D (P s1) q n, upd-other (A .rootp s2) D (P s2) q n, upd-other (A .lstp) D L q n) refl
+    desc-same q n =
+        rw (
+          upd-other (A .rootp pt) D (P pt) q n,
+          upd-other (A .rootp s1) D (P s1) q n,
+          upd-other (A .rootp s2) D (P s2) q n,
+          upd-other (A .lstp) D L q n,
+          upd-other (A .vcli) D 0 q n,
+        ) refl
 
     old-word : (C : Cells) (q j : ℕ) (r : Role) → A .role q ≡ r → q ≢ D → roleWord b f A C r q j ≡ roleWord b f B C r q j
     unfolding roleWord headList
@@ -61,39 +71,44 @@ module _ {b : ℕ} (wide : 6 ≤ b) where
     unfolding roleWord listList listPairs
     new-lst C q j = ap (λ (t : List Three). getD (listList b (A .chain) t) j 0) (upd-same (A .threes) D [])
 
-    twelve : length (descList b B D) ≡ 12
-    unfolding descList
-    twelve = refl
+    abbrev ws : List ℕ
+    ws = descWords b B D []
 
-    filled : (m : List ℕ) (C : Cells) → EncodesC b N f m A C → EncodesC b N f (putL b (putL b m D 0 (descList b B D)) L 0 (1 ∷ [])) B C
+    filled : (m : List ℕ) (C : Cells) → EncodesC b N f m A C → EncodesC b N f (putL b (putL b m D 0 ws) L 0 (1 ∷ [])) B C
     unfolding roleWord
-    filled m C en = record { sized = putL-sized wide N _ L 0 (1 ∷ []) (putL-sized wide N m D 0 (descList b B D) (en .sized)); says = λ q j l β h. go q j l β h (view wide N fl A wf o D P L pre q) }
+    filled m C en = record {
+      sized = putL-sized wide N _ L 0 (1 ∷ []) (putL-sized wide N m D 0 ws (en .sized));
+      says = λ q j l β h. go q j l β h (view wide N fl A wf o D P L pre q);
+    }
       where
         small : 12 ≤ W b
         small = twelve-lt wide 11 (omega arith)
 
         m1 : List ℕ
-        m1 = putL b m D 0 (descList b B D)
+        m1 = putL b m D 0 ws
 
         m2 : List ℕ
         m2 = putL b m1 L 0 (1 ∷ [])
 
         on-D : (q j : ℕ) → j < W b → q ≢ D → word b m1 q j ≡ word b m q j
-        on-D q j β n = putL-other wide m D 0 (descList b B D) q j (omega (arith, small, twelve)) β n
+        on-D q j β n = putL-other wide m D 0 ws q j (omega (arith, small)) β n
 
         on-L : (q j : ℕ) → j < W b → q ≢ L → word b m2 q j ≡ word b m1 q j
         on-L q j β n = putL-other wide m1 L 0 (1 ∷ []) q j (omega (arith, small)) β n
 
         go : (q j : ℕ) → q < N → j < W b → isHand (B .role q) ≡ false → FillView A D P L q (B .role q) → word b m2 q j ≡ roleWord b f B C (B .role q) q j
         go q j l β h (is-D x y) =
-            let w : word b m2 D j ≡ getD (descList b B D) j 0 = on-L D j β (λ e. pre .L-D (sym e)) ∙ putL-same wide N m D (descList b B D) j (en .sized) (lt D (pre .D-blank)) β ∙ ap (getD (descList b B D) j) (blank-word m C en D j (pre .D-blank) β) in
-            rw (y, x) w
+            let w : word b m2 D j ≡ getD ws j 0
+            = on-L D j β (λ e. pre .L-D (sym e)) ∙ putL-same wide N m D ws j (en .sized) (lt D (pre .D-blank)) β
+            ∙ ap (getD ws j) (blank-word m C en D j (pre .D-blank) β) in
+            rw (y, x) (w ∙ sym (desc-clear b B D (upd-same (A .vcli) D 0) j))
         go q j l β h (is-P k x y) =
             let w : word b m2 (P k) j ≡ 0 = on-L (P k) j β (pre .P-L k) ∙ on-D (P k) j β (pre .P-D k) ∙ blank-word m C en (P k) j (pre .P-blank k) β in
             rw y ((rw x w) ∙ sym (new-root C k q j))
         go q j l β h (is-L x y) =
             let u : word b m1 L j ≡ 0 = on-D L j β (pre .L-D) ∙ blank-word m C en L j (pre .L-blank) β in
-            let w : word b m2 L j ≡ getD (1 ∷ []) j 0 = putL-same wide N m1 L (1 ∷ []) j (putL-sized wide N m D 0 (descList b B D) (en .sized)) (lt L (pre .L-blank)) β ∙ ap (getD (1 ∷ []) j) u in
+            let z = putL-sized wide N m D 0 ws (en .sized) in
+            let w : word b m2 L j ≡ getD (1 ∷ []) j 0 = putL-same wide N m1 L (1 ∷ []) j z (lt L (pre .L-blank)) β ∙ ap (getD (1 ∷ []) j) u in
             rw y ((rw x w) ∙ sym (new-lst C q j))
         go q j l β h (is-old n n′ n″ y) =
             on-L q j β n′ ∙ on-D q j β n ∙ en .says q j l β (ap isHand (sym y) ∙ h) ∙ old-word C q j (A .role q) refl n ∙ ap (λ (r : Role). roleWord b f B C r q j) (sym y)
@@ -166,12 +181,12 @@ module _ {b : ℕ} (wide : 6 ≤ b) where
 
     -- the whole: the page's words, the list's first word, and the mark in o
     unfoldable pub fillM : List ℕ → List ℕ
-    fillM m = let m2 : List ℕ = putL b (putL b m D 0 (descList b B D)) L 0 (1 ∷ []) in put b m2 (tablePage b m2 s1 o vD) (off b vD) 1
+    fillM m = let m2 : List ℕ = putL b (putL b m D 0 ws) L 0 (1 ∷ []) in put b m2 (tablePage b m2 s1 o vD) (off b vD) 1
 
     pub fill-words : (m : List ℕ) → Encodes b N f m A → Encodes b N f (fillM m) B
     unfolding fillM
     fill-words m en =
-        let m2 : List ℕ = putL b (putL b m D 0 (descList b B D)) L 0 (1 ∷ []) in
+        let m2 : List ℕ = putL b (putL b m D 0 ws) L 0 (1 ∷ []) in
         let wB : WF b N fl B = fill-wf wide N fl A wf o D P L pre in
         let e2 : EncodesC b N f m2 B (cell b A) = filled m (cell b A) en in
         let g : Good b B D (pre .D-first .hop ∷ pre .D-first .rest) = rw (pre .D-first .is) at (wB .good D) in

@@ -10,7 +10,7 @@ use native.Mathlib.Decide.{decLt, decLe}
 use borrow.Author.Tests.{lt-ltb, le-ltb, le-leb, lt-leb, eq-eqb, ne-eqb}
 use lib.Dec.{eqb}
 use lib.ListN.{getD}
-use Rattle.memory.specs.Geometry.{pageWords, threesFor, flatPages, leastPages, mostPages}
+use Rattle.memory.specs.Geometry.{mostFlag, pageWords, threesFor, flatPages, leastPages, mostPages}
 use Rattle.memory.specs.Format.{format, formatWord, rootTableWord}
 use Rattle.memory.proofs.Geometry.{threesFor-enough, threesFor-least}
 use Rattle.memory.proofs.Widths.{words-least}
@@ -154,7 +154,7 @@ module _ {b : ℕ} (wide : 6 ≤ b) (n : ℕ) (least : leastPages ≤ n) (most :
   format-words q j h = go (view n T q)
     where
       five : (p : ℕ) → p < 5 → q ≡ 1 + p → roleWord b (fixed b n) A (cell b A) (A .role q) q j ≡ formatWord b n q j
-      five p l e = rw e (five-words wide n (flat0 n T) A wf kept (fixed b n) (cell b A) p l j)
+      five p l e = rw e (five-words wide n (flat0 n T) A wf kept (fixed b n) (cell b A) p l j (λ x. refl))
 
       go : View n T q → roleWord b (fixed b n) A (cell b A) (A .role q) q j ≡ formatWord b n q j
       go (v-head e r) = rw (r, e) (head-words j)
@@ -163,6 +163,10 @@ module _ {b : ℕ} (wide : 6 ≤ b) (n : ℕ) (least : leastPages ≤ n) (most :
       go (v-lst e r) = five 4 (omega arith) e
       go (v-tab x e l r) = rw (r, e) (cells (kindAt (x % 3)) (join b (x / 3) j) ∙ sym (late-word x j l))
       go (v-hand l r) = not-hand r h
+
+  flags : (d : ℕ) → A .vcli d ≤ mostFlag b
+  unfolding start
+  flags d = omega arith
 
   pub inv-format : Inv b (format b n)
   unfolding word Sized W format
@@ -174,6 +178,7 @@ module _ {b : ℕ} (wide : 6 ≤ b) (n : ℕ) (least : leastPages ≤ n) (most :
     wf = wf;
     full = full;
     root = kept;
+    flags = flags;
     words = record {
       sized = length-tabulate 0 (n * pageWords b) _;
       says = λ q j l β h. format-word b n q j l β ∙ sym (format-words q j h);

@@ -209,4 +209,4 @@ module _ {b : ℕ} (wide : 6 ≤ b) (m : List ℕ) (i : Inv b m) where
       = subst (λ (w : ℕ). Encodes b (i .N) f (delete b m o w) (delA (i .state) (x .child))) (x .at)
       (deleted wide (i .N) fl f m (i .state) (i .wf) (i .words) o (x .child) (x .pre) (x .is)) in
       moved b i _ (delA (i .state) (x .child)) (del-wf wide (i .N) fl (i .state) (i .wf) o (x .child) (x .pre)) (full (x .child))
-      (record { roots = i .root .roots; list = i .root .list; threes = i .root .threes }) words
+      (record { roots = i .root .roots; list = i .root .list; threes = i .root .threes }) (i .flags) words

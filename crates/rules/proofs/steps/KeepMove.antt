@@ -37,7 +37,7 @@ module _ {b : ℕ} (wide : 6 ≤ b) (m : List ℕ) (i : Inv b m) where
       ap (pageOf b) (i .words .says d 11 (kernel-lt wide (i .N) _ (i .state) (i .wf) d h) (twelve-lt wide 11 (omega arith)) h ∙ (rw l (parent-word wide (fixed b (i .N)) (i .state) (cell b (i .state)) d)))
       ∙ pageOf-addr wide (headP (i .state .chain d))
 
-  parent-live : (d : ℕ) → i .state .role d ≡ desc → pageOf b (word b m d 11) ≢ 0 → i .state .role (pageOf b (word b m d 11)) ≡ desc
+  pub parent-live : (d : ℕ) → i .state .role d ≡ desc → pageOf b (word b m d 11) ≢ 0 → i .state .role (pageOf b (word b m d 11)) ≡ desc
   parent-live d l n = go (i .state .chain d) refl
     where
       go : (hs : List Hop) → i .state .chain d ≡ hs → i .state .role (pageOf b (word b m d 11)) ≡ desc

@@ -33,7 +33,16 @@ abbrev pub newThree : ℕ → (Kind → ℕ) → Three
 newThree i P = record { at = i; page = P }
 
 abbrev pub prepA : Abs → ℕ → ℕ → (Kind → ℕ) → Abs
-prepA A c i P = record { role = prepRole A c i P; chain = A .chain; maps = A .maps; rootp = A .rootp; lstp = A .lstp; threes = upd (A .threes) c (A .threes c ++ newThree i P ∷ []); cur = A .cur }
+prepA A c i P = record {
+  role = prepRole A c i P;
+  chain = A .chain;
+  maps = A .maps;
+  rootp = A .rootp;
+  lstp = A .lstp;
+  threes = upd (A .threes) c (A .threes c ++ newThree i P ∷ []);
+  vcli = A .vcli;
+  cur = A .cur;
+}
 
 pub data PrepView (A : Abs) (c i : ℕ) (P : Kind → ℕ) (q : ℕ) (r : Role) : Type 0 where
   is-P : (k : Kind) → q ≡ P k → r ≡ tab k c i → PrepView A c i P q r

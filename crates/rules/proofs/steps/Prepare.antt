@@ -198,6 +198,7 @@ module _ {b : ℕ} (wide : 6 ≤ b) (m : List ℕ) (i : Inv b m) (c t p : ℕ) (
     wf = prepared .0;
     full = prepared-full;
     root = record { roots = i .root .roots; list = i .root .list; threes = upd-other (A .threes) d (A .threes d ++ newThree x P ∷ []) 1 (chd .below) ∙ i .root .threes };
+    flags = i .flags;
     words = prepared .1;
   }
 

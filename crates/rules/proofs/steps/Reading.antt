@@ -5,7 +5,7 @@ use mathlib.Core.Option.{none}
 use mathlib.Core.Bool.{Bool, true, false, not, cond, _||_}
 use Prim.Native.Nat.{ℕ, zero, suc, _+_, _-_, _*_, _/_, _≤_, _<_}
 use native.Mathlib.Omega.{arith}
-use borrow.Author.Tests.{leb-false, eqb-true, eqb-false, not-false, not-true}
+use borrow.Author.Tests.{eqb-true, eqb-false, not-false, not-true}
 use lib.Dec.{leb, eqb}
 use Rattle.walk.specs.Finite.{any}
 use Rattle.memory.specs.Geometry.{addressEnd, place, mostDepth}
@@ -13,38 +13,21 @@ use Rattle.memory.specs.Words.{word}
 use Rattle.memory.specs.Entry.{present, accessible, readRight, writeRight}
 use Rattle.memory.specs.Partition.{current, list, threes, tableFor, mapping, lent, inHand}
 use Rattle.memory.proofs.Geometry.{place-lt}
-use Rattle.rules.specs.Refusal.{Refusal, number, DAMAGED, ADDRESS, TWICE, CHILD, RIGHTS, HAND, TABLE, TAKEN, LIST, CHAIN, FULL-TABLE, DEPTH, ROOT}
+use Rattle.rules.specs.Refusal.{DAMAGED, ADDRESS, TWICE, CHILD, RIGHTS, HAND, TABLE, TAKEN, LIST, CHAIN, FULL-TABLE, DEPTH, ROOT}
 use Rattle.rules.specs.Refusal.{UNMAPPED, KERNEL}
 use Rattle.rules.specs.Row.{Check, _when_, first, reply}
 use Rattle.rules.specs.Call.{Call, formatAll, createPartition, deletePartition, addVAddr, removeVAddr, pageCount, prepare, collect, mappedInChild}
-use Rattle.rules.specs.Call.{enter, leave, load, store, choice}
+use Rattle.rules.specs.Call.{enter, leave, load, store, notify, dispatch, resume, choice, resumption}
 use Rattle.rules.specs.Conditions.{damaged, badAddress, badPage, noChild, child, lacks, notInHand, noThree, unmapped, listFull, anyMapping}
 use Rattle.rules.specs.Conditions.{inaccessible, servesChild, link, inChain, chain}
 use Rattle.rules.specs.Refusals.{refusals, refusal}
 use Rattle.rules.specs.Effects.{placeOf, threePlace}
-use Rattle.rules.specs.Calls.{result, answer}
-use Rattle.rules.specs.Reads.{SameChild, SameRead, Reads}
+use Rattle.rules.specs.Calls.{result, answer, resumed, context}
+use Rattle.rules.specs.Reads.{SameChild, SameRead, SameParent, Reads}
 use Rattle.rules.proofs.Rows.{passed}
 use Rattle.rules.proofs.steps.Checks.{false-or, true-and, Each, none-of}
-
--- ---- rows
-
--- a test that is the same in both, and what follows it
-row : (r : Refusal) (s t : Bool) (cs ds : List Check) → s ≡ t → (s ≡ false → first cs ≡ first ds) → first (r when s ∷ cs) ≡ first (r when t ∷ ds)
-unfolding first
-row r s t cs ds e h = go s h ∙ ap (λ (x : Bool). cond x (number r) (first ds)) e
-  where
-    go : (s : Bool) → (s ≡ false → first cs ≡ first ds) → cond s (number r) (first cs) ≡ cond s (number r) (first ds)
-    go true h = refl
-    go false h = h refl
-
--- the last test of a row
-last-row : (r : Refusal) (s t : Bool) → s ≡ t → first (r when s ∷ []) ≡ first (r when t ∷ [])
-last-row r s t e = row r s t [] [] e (λ x. refl)
-
--- an address that has passed the test of addresses
-pub below-end : (b unit v : ℕ) → badAddress b unit v ≡ false → v < addressEnd b
-below-end b unit v e = leb-false (addressEnd b) v (false-or _ _ (false-or _ _ e .0) .0)
+use Rattle.rules.proofs.steps.ReadRows.{row, last-row, below-end}
+use Rattle.rules.proofs.steps.ReadSlots.{dispatch-same, notify-same, resume-same, context-same}
 
 -- the place of a three in a list is read up to the last three
 place-same : (b : ℕ) (m n : List ℕ) (q x l₁ l₂ a : ℕ) → ((y : ℕ) → x ≤ y → y < x + q → word b m l₁ (2 + 6 * y) ≡ word b n l₂ (2 + 6 * y))
@@ -202,18 +185,18 @@ module _ (b : ℕ) (m n : List ℕ) (s : SameRead b m n) where
 
   -- ---- every call but format
 
-  refusal-same : (x : Call) → choice x ≡ none → refusal b m x ≡ refusal b n x
+  refusal-same : (x : Call) → choice x ≡ none → SameParent b m n x → refusal b m x ≡ refusal b n x
   unfolding refusals choice
-  refusal-same (formatAll f) h = let z : _≡_ {A = ℕ} 0 1 = cc in absurd (omega arith)
-  refusal-same (createPartition p q t u l) h =
+  refusal-same (formatAll f) h up = let z : _≡_ {A = ℕ} 0 1 = cc in absurd (omega arith)
+  refusal-same (createPartition p q t u l) h up =
       let five : List ℕ = p ∷ q ∷ t ∷ u ∷ l ∷ [] in
       pages-row five _ _ (λ g.
       row TWICE _ _ _ _ refl (λ x.
       row HAND _ _ _ _ (each-same (notInHand b m) (notInHand b n) five g notInHand-same) (λ y.
       row RIGHTS _ _ _ _ (each-same (lacks b writeRight m) (lacks b writeRight n) five g (λ v i. lacks-same v i writeRight)) (λ z.
       last-row DEPTH _ _ (ap (leb mostDepth) (s .depth))))))
-  refusal-same (deletePartition c) h = page-row c _ _ (λ g. child-row c g [] [] (λ x. refl))
-  refusal-same (addVAddr p c v r) h =
+  refusal-same (deletePartition c) h up = page-row c _ _ (λ g. child-row c g [] [] (λ x. refl))
+  refusal-same (addVAddr p c v r) h up =
       pages-row (p ∷ c ∷ v ∷ []) _ _ (λ (i, (g, (o, u))).
       row RIGHTS _ _ _ _ refl (λ w.
       child-row c g _ _ (λ one.
@@ -221,34 +204,37 @@ module _ (b : ℕ) (m n : List ℕ) (s : SameRead b m n) where
       row RIGHTS _ _ _ _ (lacks-same p (good p i) r) (λ y.
       row TABLE _ _ _ _ (noThree-same c g one v (good v o)) (λ z.
       last-row TAKEN _ _ (ap not (child-unmapped c g one v (good v o)))))))))
-  refusal-same (removeVAddr c v) h =
+  refusal-same (removeVAddr c v) h up =
       pages-row (c ∷ v ∷ []) _ _ (λ (g, (o, u)).
       child-row c g _ _ (λ one.
       row TABLE _ _ _ _ (noThree-same c g one v (good v o)) (λ x.
       row UNMAPPED _ _ _ _ (child-unmapped c g one v (good v o)) (λ y.
       last-row HAND _ _ (ap not (child-hand c g one v (good v o)))))))
-  refusal-same (pageCount c v) h =
+  refusal-same (pageCount c v) h up =
       pages-row (c ∷ v ∷ []) _ _ (λ (g, (o, u)).
       child-row c g _ _ (λ one.
       last-row LIST _ _ (listFull-same c g one v (good v o))))
-  refusal-same (prepare c v p) h =
+  refusal-same (prepare c v p) h up =
       pages-row (c ∷ v ∷ p ∷ []) _ _ (λ (g, (o, i)).
       child-row c g _ _ (λ one.
       row TAKEN _ _ _ _ (ap not (noThree-same c g one v (good v o))) (λ x.
       row LIST _ _ _ _ (listFull-same c g one v (good v o)) (λ y. links p))))
-  refusal-same (collect c v) h =
+  refusal-same (collect c v) h up =
       pages-row (c ∷ v ∷ []) _ _ (λ (g, (o, u)).
       child-row c g _ _ (λ one.
       row TABLE _ _ _ _ (noThree-same c g one v (good v o)) (λ x.
       last-row FULL-TABLE _ _ (anyMapping-same c g one v (good v o) x))))
-  refusal-same (mappedInChild p) h =
+  refusal-same (mappedInChild p) h up =
       page-row p _ _ (λ g.
       row UNMAPPED _ _ _ _ (unmapped-same p (good p g)) (λ x.
       last-row KERNEL _ _ (servesChild-same p (good p g))))
-  refusal-same (enter c) h = page-row c _ _ (λ g. child-row c g [] [] (λ x. refl))
-  refusal-same leave h = sound-row _ _ (last-row ROOT _ _ (ap (λ (x : ℕ). eqb x 0) (s .parent)))
-  refusal-same (load v) h = word-row readRight v
-  refusal-same (store v x) h = word-row writeRight v
+  refusal-same (enter c) h up = page-row c _ _ (λ g. child-row c g [] [] (λ x. refl))
+  refusal-same leave h up = sound-row _ _ (last-row ROOT _ _ (ap (λ (x : ℕ). eqb x 0) (s .parent)))
+  refusal-same (load v) h up = word-row readRight v
+  refusal-same (store v x) h up = word-row writeRight v
+  refusal-same (notify t p q r) h up = notify-same b m n s t p q r
+  refusal-same (dispatch t) h up = dispatch-same b m n s t
+  refusal-same (resume t k) h up = resume-same b m n s t k up
 
   -- what a call that passes answers
   result-same : (x : Call) → refusal b m x ≡ 0 → result b m x ≡ result b n x
@@ -277,16 +263,39 @@ module _ (b : ℕ) (m n : List ℕ) (s : SameRead b m n) where
       let x = passed _ h in
       s .page v (below-end b 4 v (x .1 .0)) (eqb-false _ _ (x .1 .1 .0)) (place b v / 4) (omega (arith, place-lt b v))
   result-same (store v x) h = refl
+  result-same (notify t p q r) h = refl
+  result-same (dispatch t) h = refl
+  result-same (resume t k) h = refl
 
-pub refused-same : (b : ℕ) (m n : List ℕ) → SameRead b m n → (c : Call) → choice c ≡ none → refusal b m c ≡ refusal b n c
+  -- what a call answers beside
+  beside-same : (x : Call) → SameParent b m n x → context b m x ≡ context b n x
+  unfolding context resumption resumed
+  beside-same (formatAll f) up = refl
+  beside-same (createPartition p q t u l) up = refl
+  beside-same (deletePartition c) up = refl
+  beside-same (addVAddr p c v r) up = refl
+  beside-same (removeVAddr c v) up = refl
+  beside-same (pageCount c v) up = refl
+  beside-same (prepare c v p) up = refl
+  beside-same (collect c v) up = refl
+  beside-same (mappedInChild p) up = refl
+  beside-same (enter c) up = refl
+  beside-same leave up = refl
+  beside-same (load v) up = refl
+  beside-same (store v x) up = refl
+  beside-same (notify t p q r) up = refl
+  beside-same (dispatch t) up = refl
+  beside-same (resume t k) up = context-same b m n s t k up
+
+pub refused-same : (b : ℕ) (m n : List ℕ) → SameRead b m n → (c : Call) → choice c ≡ none → SameParent b m n c → refusal b m c ≡ refusal b n c
 refused-same b m n s = refusal-same b m n s
 
 pub reads : Reads
 unfolding answer reply
-reads b m n s c h = go (refusal b m c) refl
+reads b m n s c h up = (go (refusal b m c) refl, beside-same b m n s c up)
   where
     same : refusal b m c ≡ refusal b n c
-    same = refusal-same b m n s c h
+    same = refusal-same b m n s c h up
 
     go : (r : ℕ) → refusal b m c ≡ r → reply (refusal b m c) (result b m c) ≡ reply (refusal b n c) (result b n c)
     go zero z = ap₂ reply same (result-same b m n s c z)

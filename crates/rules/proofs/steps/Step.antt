@@ -5,7 +5,7 @@ use mathlib.Core.Option.{none}
 use Prim.Native.Nat.{ℕ, _≤_}
 use native.Mathlib.Omega.{arith}
 use Rattle.rules.specs.Call.{Call, formatAll, createPartition, deletePartition, addVAddr, removeVAddr, pageCount, prepare, collect, mappedInChild}
-use Rattle.rules.specs.Call.{enter, leave, load, store, choice}
+use Rattle.rules.specs.Call.{enter, leave, load, store, notify, dispatch, resume, choice}
 use Rattle.rules.specs.Calls.{after}
 use Rattle.rules.proofs.model.Inv.{Inv}
 use Rattle.rules.proofs.steps.Unchanged.{inv-after, inv-pageCount, inv-mappedInChild, inv-load}
@@ -15,6 +15,8 @@ use Rattle.rules.proofs.steps.KeepCreate.{keep-create}
 use Rattle.rules.proofs.steps.KeepDelete.{keep-delete}
 use Rattle.rules.proofs.steps.Prepare.{keep-prepare}
 use Rattle.rules.proofs.steps.CollectThree.{keep-collect}
+use Rattle.rules.proofs.steps.Live.{live-inv}
+use Rattle.rules.proofs.steps.KeepContexts.{notified, dispatched, resumed}
 
 module _ {b : ℕ} (wide : 6 ≤ b) where
   pub inv-step : (m : List ℕ) → Inv b m → (c : Call) → choice c ≡ none → Inv b (after b m c)
@@ -32,3 +34,6 @@ module _ {b : ℕ} (wide : 6 ≤ b) where
   inv-step m i leave n = inv-after wide m i _ (keep-leave wide m i)
   inv-step m i (load a) n = inv-load wide m i a
   inv-step m i (store a x) n = inv-after wide m i _ (keep-store wide m i a x)
+  inv-step m i (notify t p q r) n = inv-after wide m i _ (λ e. live-inv wide m i (notified wide m i t p q r e))
+  inv-step m i (dispatch t) n = inv-after wide m i _ (λ e. live-inv wide m i (dispatched wide m i t e))
+  inv-step m i (resume t s) n = inv-after wide m i _ (λ e. live-inv wide m i (resumed wide m i t s e))

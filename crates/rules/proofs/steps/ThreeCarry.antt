@@ -1,7 +1,7 @@
 -- Calls that write to no list, root or descriptor leave a three where it stands: enter, leave, store, addVAddr, removeVAddr.
 use mathlib.Core.Path.{_≡_, refl, sym, ap, _∙_, subst}
 use mathlib.Core.Logic.{_≢_}
-use mathlib.Core.Bool.{Bool, true, false, not, _||_}
+use mathlib.Core.Bool.{not, _||_}
 use mathlib.Core.Option.{Option, none, some}
 use mathlib.Core.List.{List, [], _∷_}
 use Prim.Native.Nat.{ℕ, _/_, _%_, _≤_, _<_}
@@ -17,18 +17,18 @@ use Rattle.rules.specs.Call.{addVAddr, removeVAddr, enter, leave, store}
 use Rattle.rules.specs.Conditions.{badPage, child}
 use Rattle.rules.specs.Refusals.{refusals, refusal}
 use Rattle.rules.specs.Effects.{add, remove, effect}
-use Rattle.rules.proofs.model.Words.{W, addr, word, put, idx, pageOf, accOf, accOf-pte, bit}
-use Rattle.rules.proofs.model.Abs.{Kind, pt, s1, s2, hand, desc, Hop, Three, Abs, headP, threeAt, Good, WF, Cells, EncodesC, isHand, cell, linkWord}
-use Rattle.rules.proofs.model.Facts.{is-hand}
+use Rattle.rules.proofs.model.Words.{W, addr, word, put, idx, pageOf, accOf}
+use Rattle.rules.proofs.model.Abs.{Kind, pt, s1, s2, hand, desc, Three, Abs, threeAt, WF, Cells, EncodesC, cell, linkWord}
 use Rattle.rules.proofs.model.Read.{rootPage, tableAt, entryAt, putAt, table-word}
 use Rattle.rules.proofs.model.Cells.{set-cell}
-use Rattle.rules.proofs.steps.Move.{setCur, free-put, cur-wf, cur-words}
+use Rattle.rules.proofs.steps.Move.{setLive, setCur, free-put, live-wf, cur-words}
+use Rattle.rules.proofs.steps.Live.{Live, live-state}
 use Rattle.rules.proofs.model.Inv.{Inv, named, live}
 use Rattle.rules.proofs.model.Names.{PageAddress, good-page}
 use Rattle.rules.proofs.Rows.{passed}
 use Rattle.rules.proofs.steps.Checks.{false-or, none-of, a-child}
-use Rattle.rules.proofs.steps.KeepMove.{parent-is}
-use Rattle.rules.proofs.sound.Views.{sees}
+use Rattle.rules.proofs.steps.Keep.{hand-page}
+use Rattle.rules.proofs.steps.KeepMove.{parent-live}
 use Rattle.rules.proofs.sound.Words.{virtual-fits, virtual-addr}
 use Rattle.rules.proofs.sound.Tree.{live-in-tree}
 use Rattle.rules.proofs.sound.All.{inv-sound}
@@ -62,27 +62,6 @@ module _ {b : ℕ} (wide : 6 ≤ b) (m : List ℕ) (i : Inv b m) where
       go (some t) q = (_, set-cell wide N fl f A (i .wf) m′ C en k e v t l q y)
       go none q = (C, subst (λ (z : List ℕ). EncodesC b N f z A C) (sym (put-absent b m′ k e v y (table-word wide N fl A (i .wf) f m′ C en k e v l β ∙ ap (linkWord b k) q))) en)
 
-  parent-live : Partition.parent b m o ≢ 0 → A .role (Partition.parent b m o) ≡ desc
-  unfolding word pageOf
-  parent-live n = go (A .chain o) refl
-    where
-      go : (hs : List Hop) → A .chain o ≡ hs → A .role (Partition.parent b m o) ≡ desc
-      go [] e = absurd (n (parent-is wide m i o (live wide m i) ∙ ap headP e))
-      go (h ∷ hs) e =
-          let g : Good b A o (h ∷ hs) = rw e at (i .wf .good o) in
-          ap (A .role) (parent-is wide m i o (live wide m i) ∙ ap headP e) ∙ g .0 .live
-
-  -- a page that the caller may store to is in somebody's hand
-  open-page : (v : ℕ) → idx b v < W b → entryAt b m pt o v ≢ 0 → accOf (entryAt b m pt o v) ≢ 0 → A .role (pageOf b (entryAt b m pt o v)) ≡ hand
-  open-page v β n a =
-      let s = sees wide N fl f m A (i .wf) (i .words) o v (live wide m i) β n in
-      let h : bit (isHand (A .role (s .x .page))) ≢ 0 = λ e. a (ap accOf (s .word) ∙ accOf-pte wide (s .x .page) _ (s .x .sees .rt) (s .small) ∙ e) in
-      ap (A .role) (s .page) ∙ is-hand (A .role (s .x .page)) (go (isHand (A .role (s .x .page))) h)
-    where
-      go : (u : Bool) → bit u ≢ 0 → u ≡ true
-      go true h = refl
-      go false h = absurd (h refl)
-
   -- the shadow 2 word of a virtual page that has tables is an address
   above-fits : (k t : ℕ) → A .role k ≡ desc → PageAddress b t → Partition.tableFor b m k t ≢ 0 → idx b (pageOf b (Partition.above b m k t)) < W b
   unfolding addr pageOf
@@ -105,7 +84,7 @@ module _ {b : ℕ} (wide : 6 ≤ b) (m : List ℕ) (i : Inv b m) where
 
     move : (e : ℕ) → A .role e ≡ desc → ThreeAt b (put b m 0 4 (addr b e)) d x v₁ v₂ v₃
     move e le =
-        carry (put b m 0 4 (addr b e)) (setCur A e) (cur-wf wide N fl f m A (i .wf) (i .words) e le) (cur-words wide N fl f m A (i .wf) (i .words) e)
+        carry (put b m 0 4 (addr b e)) (setCur A e) (live-wf wide N fl f m A (i .wf) (i .words) (A .vcli) e le) (cur-words wide N fl f m A (i .wf) (i .words) e)
         (λ v h. record { live = h .live; three = h .three; here = h .here; at = h .at })
 
     pub stay-enter : (c : ℕ) → refusal b m (enter c) ≡ 0 → ThreeAt b (effect b m (enter c)) d x v₁ v₂ v₃
@@ -115,10 +94,15 @@ module _ {b : ℕ} (wide : 6 ≤ b) (m : List ℕ) (i : Inv b m) where
         move (child b m c) (child-of wide m i c (good-page b c (y .1 .0)) (a-child b m c (y .1 .1 .0)) .live)
 
     pub stay-leave : refusal b m leave ≡ 0 → ThreeAt b (effect b m leave) d x v₁ v₂ v₃
-    unfolding refusals effect put addr
+    unfolding refusals effect put addr pageOf word
     stay-leave e =
         let y = passed (refusals b m leave) e in
-        move (Partition.parent b m o) (parent-live (eqb-false _ _ (y .1 .0)))
+        move (Partition.parent b m o) (parent-live wide m i o (live wide m i) (eqb-false _ _ (y .1 .0)))
+
+    pub stay-live : (m′ : List ℕ) → Live wide m i m′ → ThreeAt b m′ d x v₁ v₂ v₃
+    stay-live m′ h =
+        carry m′ (setLive A (h .vs) (h .cur)) (live-state wide m i h) (h .words)
+        (λ v g. record { live = g .live; three = g .three; here = g .here; at = g .at })
 
     -- ---- a word of a page in hand
 
@@ -127,7 +111,9 @@ module _ {b : ℕ} (wide : 6 ≤ b) (m : List ℕ) (i : Inv b m) where
     stay-store a y e =
         let z = passed (refusals b m (store a y)) e in
         let lt : a < Geometry.addressEnd b = leb-false (Geometry.addressEnd b) a (false-or _ _ (false-or (leb (Geometry.addressEnd b) a || ltb a (Geometry.pageBytes b)) (not (eqb (a % 4) 0)) (z .1 .0) .0) .0) in
-        let r : A .role (pageOf b (entryAt b m pt o (pageOf b a))) ≡ hand = open-page (pageOf b a) (directoryIndex-lt b a lt) (eqb-false _ _ (z .1 .1 .0)) (eqb-false _ _ (z .1 .1 .1 .0)) in
+        let r : A .role (pageOf b (entryAt b m pt o (pageOf b a))) ≡ hand =
+        let n : accOf (entryAt b m pt o (pageOf b a)) ≢ 0 = eqb-false _ _ (z .1 .1 .1 .0) in
+        hand-page wide m i o (pageOf b a) (live wide m i) (directoryIndex-lt b a lt) (eqb-false _ _ (z .1 .1 .0)) (omega arith) in
         stay _ (cell b A, free-put wide N fl f m A (i .wf) (i .words) _ (Geometry.place b a / 4) y (omega (arith, place-lt b a)) r)
 
     -- ---- table words

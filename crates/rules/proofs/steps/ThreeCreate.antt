@@ -31,7 +31,7 @@ use Rattle.rules.specs.SameChain.{ThreeAt}
 
 -- the state with other roles
 abbrev reRole : Abs → (ℕ → Role) → Abs
-reRole A r = record { role = r; chain = A .chain; maps = A .maps; rootp = A .rootp; lstp = A .lstp; threes = A .threes; cur = A .cur }
+reRole A r = record { role = r; chain = A .chain; maps = A .maps; rootp = A .rootp; lstp = A .lstp; threes = A .threes; vcli = A .vcli; cur = A .cur }
 
 -- roles that are not hand are us in A
 abbrev Only : Abs → (ℕ → Role) → Type 0

@@ -10,7 +10,7 @@ use Rattle.memory.specs.Partition
 use Rattle.memory.specs.Tree.{InTree}
 use Rattle.rules.specs.Row.{pass}
 use Rattle.rules.specs.Call.{Call, formatAll, createPartition, deletePartition, addVAddr, removeVAddr, pageCount, prepare, collect, mappedInChild}
-use Rattle.rules.specs.Call.{enter, leave, load, store, choice}
+use Rattle.rules.specs.Call.{enter, leave, load, store, notify, dispatch, resume, choice}
 use Rattle.rules.specs.Conditions
 use Rattle.rules.specs.Refusals.{refusals, refusal}
 use Rattle.rules.specs.Effects.{delete, effect}
@@ -36,7 +36,8 @@ use Rattle.rules.proofs.steps.CollectThree as Collect
 use Rattle.rules.specs.SameChain.{ThreeAt, Spares, SparesAll, SameLater}
 use Rattle.rules.proofs.steps.Relink.{collect-chain}
 use Rattle.rules.proofs.steps.PrepareCollect.{prepare-three}
-use Rattle.rules.proofs.steps.ThreeCarry.{carry, stay-enter, stay-leave, stay-store, stay-add, stay-remove}
+use Rattle.rules.proofs.steps.ThreeCarry.{carry, stay-enter, stay-leave, stay-live, stay-store, stay-add, stay-remove}
+use Rattle.rules.proofs.steps.KeepContexts.{notified, dispatched, resumed}
 use Rattle.rules.proofs.steps.ThreeCreate.{stay-create}
 
 module _ {b : ℕ} (wide : 6 ≤ b) (m : List ℕ) (i : Inv b m) (d x : ℕ) (l : i .state .role d ≡ desc) {v₁ v₂ v₃ : ℕ} (th : ThreeAt b m d x v₁ v₂ v₃) where
@@ -103,6 +104,7 @@ module _ {b : ℕ} (wide : 6 ≤ b) (m : List ℕ) (i : Inv b m) (d x : ℕ) (l 
       wf = del-wf wide N fl A (i .wf) o D pre;
       full = full;
       root = record { roots = i .root .roots; list = i .root .list; threes = i .root .threes };
+      flags = i .flags;
       words = words;
     }
 
@@ -158,6 +160,9 @@ module _ {b : ℕ} (wide : 6 ≤ b) (m : List ℕ) (i : Inv b m) (d x : ℕ) (l 
   three-step leave s = passing _ (stay-leave wide m i d x l th)
   three-step (load a) s = passing _ (λ e. th)
   three-step (store a z) s = passing _ (stay-store wide m i d x l th a z)
+  three-step (notify t p q r) s = passing _ (λ e. stay-live wide m i d x l th _ (notified wide m i t p q r e))
+  three-step (dispatch t) s = passing _ (λ e. stay-live wide m i d x l th _ (dispatched wide m i t e))
+  three-step (resume t n) s = passing _ (λ e. stay-live wide m i d x l th _ (resumed wide m i t n e))
 
 module _ {b : ℕ} (wide : 6 ≤ b) where
   -- and any calls

@@ -3,7 +3,7 @@
 use super::address::*;
 use super::memory::*;
 use super::partition::Partition;
-use super::refusal::*;
+use super::refusal::{Answer, SIZE};
 
 /// The header's first four words.
 pub fn header<const W: usize>(sizes: Sizes<W>) -> [u32; 4] {

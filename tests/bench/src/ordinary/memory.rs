@@ -13,6 +13,8 @@ pub const CURRENT: usize = 4;
 pub const EDITION: usize = 5;
 /// Descriptor word that holds the parent's descriptor address.
 pub const PARENT: usize = 11;
+/// Descriptor word that holds the live flag, 0 or 1; with large pages 0.
+pub const FLAG: usize = 12;
 /// Shadow 1 word of a page that is a child's descriptor.
 pub const IS_CHILD: u32 = 1;
 
@@ -62,6 +64,11 @@ impl<'a, const W: usize> Memory<'a, W> {
 
     pub fn page_mut(&mut self, page: PPage<W>) -> &mut Page<W> {
         &mut self.0[page.0 as usize]
+    }
+
+    pub fn sizes(&self) -> Sizes<W> {
+        let (pages, threes) = (self.page(Self::HEADER)[0], self.page(Self::HEADER)[1]);
+        Sizes { pages, threes, flat: pages - 6 - 3 * threes }
     }
 
     /// The current partition.

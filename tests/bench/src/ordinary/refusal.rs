@@ -19,6 +19,10 @@ pub const DEPTH: u32 = 13;
 pub const ROOT: u32 = 14;
 pub const UNMAPPED: u32 = 15;
 pub const KERNEL: u32 = 16;
+pub const SLOT_PAGE: u32 = 20;
+pub const SLOT: u32 = 21;
+pub const EMPTY_SLOT: u32 = 22;
+pub const EDITION: u32 = 24;
 
 pub fn require(holds: bool, refusal: u32) -> Result<(), u32> {
     if holds {

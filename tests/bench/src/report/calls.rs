@@ -1,4 +1,4 @@
-//! Format and the twelve calls on the tree of a scenario.
+//! Format and the fifteen calls on the tree of a scenario.
 
 use super::{ratio, whole};
 use crate::call::{JUDGED_SOUND, NAMES};
@@ -29,7 +29,7 @@ impl Calls {
             title: scenario.title(),
             kernel: kernel_pages(&scenario.whole),
             mappings: mappings(&scenario.whole),
-            rows: (0..=12).map(row).map(|[passing, refused]| (passing, refused)).collect(),
+            rows: (0..NAMES.len() as u32).map(row).map(|[passing, refused]| (passing, refused)).collect(),
             judge,
         }
     }

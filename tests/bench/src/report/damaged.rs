@@ -60,9 +60,10 @@ pub fn table(all: &[Damages], bench: &Bench) -> Table {
     table
 }
 
-pub fn bar(name: String, all: &[Damages], bench: &Bench) -> Bar {
+/// The judge on each of them, and further figures of calls on damaged memory.
+pub fn bar(name: String, all: &[Damages], calls: impl Iterator<Item = (f64, String)>, bench: &Bench) -> Bar {
     let figures = all.iter().flat_map(|damages| {
         damages.shares(bench).map(|(name, share)| (share.proved, format!("{}: {name}", damages.title)))
     });
-    Bar::new(name, MOST, figures)
+    Bar::new(name, MOST, figures.chain(calls))
 }

@@ -2,7 +2,7 @@
 
 use super::{ratio, whole};
 use crate::builder::Step;
-use crate::call::JUDGE;
+use crate::call::{DONE, JUDGE};
 use crate::measure::{Bench, Row};
 use crate::scenario::{lent_pages, Scenario, LENT};
 use crate::table::Table;
@@ -40,7 +40,7 @@ impl Deleting {
         let mut memory = step.memory(&scenario.whole);
         let lent = lent_pages(&memory, step.call.arguments[0]);
         let answer = step.call.ordinary(&mut memory);
-        assert_eq!(answer, Ok(0), "{}", scenario.title());
+        assert_eq!(answer, DONE, "{}", scenario.title());
         let wiped = lent.iter().filter(|own| words_of(&memory, own.page).iter().all(|&word| word == 0)).count();
         let place = bench.memory(scenario.whole.clone());
         let delete = bench.add(step, place);

@@ -1,6 +1,7 @@
 //! What is measured, in tables, and the bars that it is held to.
 
 mod calls;
+mod contexts;
 mod damaged;
 mod deleting;
 mod growth;
@@ -12,6 +13,7 @@ use crate::measure::Bench;
 use crate::scenario::*;
 use crate::table::Table;
 use calls::Calls;
+use contexts::Contexts;
 use damaged::Damages;
 use deleting::Deleting;
 use growth::Growth;
@@ -111,6 +113,7 @@ struct Measured {
     calls: Vec<Calls>,
     wiping: Vec<Wiping>,
     deleting: Vec<Deleting>,
+    contexts: Vec<Contexts>,
     damages: Vec<Damages>,
     stacks: Vec<Stack>,
     growth: Growth,
@@ -135,6 +138,7 @@ impl Measured {
             calls,
             wiping,
             deleting: Deleting::all(edition, bench),
+            contexts: Contexts::all(edition, bench),
             damages,
             stacks,
             growth: Growth::new(edition, bench),
@@ -148,6 +152,9 @@ impl Measured {
         short.extend(self.growth.tables(bench));
         short.push(wiping::table(&self.wiping, bench));
         short.push(deleting::table(&self.deleting, bench));
+        if !self.contexts.is_empty() {
+            short.push(contexts::table(&self.contexts, bench));
+        }
         short.push(damaged::table(&self.damages, bench));
         short.iter_mut().for_each(|table| table.title += suffix(self.edition));
         short.extend(self.stacks.iter().map(Stack::summary));
@@ -157,10 +164,13 @@ impl Measured {
     fn bars(&self, bench: &Bench) -> Vec<Bar> {
         let of = suffix(self.edition);
         let deleting = deleting::figures(&self.deleting, bench);
-        let figures = calls::figures(&self.calls, bench).chain(self.guided.figures(bench)).chain(deleting);
+        let contexts = contexts::figures(&self.contexts, bench);
+        let figures =
+            calls::figures(&self.calls, bench).chain(self.guided.figures(bench)).chain(deleting).chain(contexts);
         let mut bars = vec![Bar::new(format!("a call over the ordinary version's{of}"), MOST, figures)];
         bars.extend(self.growth.bars(bench));
-        bars.push(damaged::bar(format!("damaged memory over the sound{of}"), &self.damages, bench));
+        let contexts = contexts::damages(&self.contexts, bench);
+        bars.push(damaged::bar(format!("damaged memory over the sound{of}"), &self.damages, contexts, bench));
         bars.extend(self.stacks.iter().map(Stack::bar));
         bars
     }

@@ -1,7 +1,7 @@
 //! The stack that each function takes on a tree of each depth.
 
 use super::Bar;
-use crate::builder::Step;
+use crate::builder::{Step, WAYS};
 use crate::call::{Call, JUDGE, NAMES};
 use crate::library;
 use crate::patch::Patch;
@@ -115,6 +115,9 @@ fn functions(scenario: &Scenario) -> Vec<(String, Option<usize>)> {
         if number > 0 {
             all.push((format!("{name}, refused"), refused.map(|step| memories.on(step))));
         }
+    }
+    for (k, way) in WAYS.into_iter().enumerate() {
+        all.push((way.to_string(), scenario.ways.get(k).map(|step| memories.on(step))));
     }
     all.extend(records(whole, scenario.edition).map(|(name, bytes)| (name.to_string(), Some(bytes))));
     all

@@ -1,9 +1,10 @@
 //! Runs, makes and damages call sequences, for comparison with another kernel.
 
-use second::calls::{call, ARGUMENTS};
+use second::calls::{call, perform, Answer, Said, ARGUMENTS};
+use second::contexts::CONTEXT_WORDS;
 use second::cover::Cover;
 use second::damage::{damage, wide_damage};
-use second::geometry::{Edition, Sizes};
+use second::geometry::{Edition, Sizes, EDITIONS};
 use second::make::make;
 use second::random::Random;
 use second::record;
@@ -73,7 +74,11 @@ fn read_words() -> io::Result<Vec<u32>> {
     Ok(bytes.chunks_exact(4).map(|b| u32::from_le_bytes([b[0], b[1], b[2], b[3]])).collect())
 }
 
-/// What the program `runs` writes for its input on standard input (tests/runs), or how often each call gave each answer there.
+/// How many numbers of answers the program `runs` lends to the run of a part.
+const ROOM: usize = 64;
+
+/// What the program `runs` writes for its input on standard input (tests/runs), or how often each call gave each answer there. Each number that the run of a
+/// part fills in has a line: a resume's answer, then its eleven words. The run stops before a call whose answer has no room.
 fn print_runs(only_cover: bool, out: &mut impl Write) -> io::Result<()> {
     let (mut cover, mut lines) = (Cover::default(), String::new());
     let mut words = read_words()?.into_iter();
@@ -81,12 +86,14 @@ fn print_runs(only_cover: bool, out: &mut impl Write) -> io::Result<()> {
         let mut mem = vec![7; length as usize];
         while let Some(count @ 1..) = words.next() {
             let part: Vec<u32> = words.by_ref().take(count as usize).collect();
-            let mut rest = &part[..];
+            let (mut rest, mut room) = (&part[..], ROOM);
             while let Some((line, after)) = split_call(rest) {
-                let Some(answer) = call(&mut mem, line[0], &line[1..]) else { break };
+                let Some(left) = room.checked_sub(numbers_of(line[0])) else { break };
+                let Some(Said { answer, context }) = perform(&mut mem, line[0], &line[1..]) else { break };
                 cover.count(line[0] as usize, answer);
-                lines += &answer.map_or_else(|refusal| format!("no {refusal}\n"), |word| format!("ok {word}\n"));
-                rest = after;
+                let numbers = std::iter::once(answer).chain(context.into_iter().flatten().map(Ok));
+                lines.extend(numbers.map(|number| format!("{}\n", shown(number))));
+                (rest, room) = (after, left);
             }
             lines += &format!("{}\n", hash32(mem.iter().copied()));
         }
@@ -97,7 +104,7 @@ fn print_runs(only_cover: bool, out: &mut impl Write) -> io::Result<()> {
         return write!(out, "{lines}");
     }
     writeln!(out, "{cover}")?;
-    let missing: Vec<_> = cover.missing().into_iter().filter(|pair| !pair.starts_with("record")).collect();
+    let missing: Vec<_> = cover.missing(&EDITIONS).into_iter().filter(|pair| !pair.starts_with("record")).collect();
     missing.is_empty().then_some(()).ok_or(io::Error::other(format!("not covered: {missing:?}")))
 }
 
@@ -123,6 +130,14 @@ fn split_call(words: &[u32]) -> Option<(&[u32], &[u32])> {
         number => *ARGUMENTS.get(number - 1)?,
     };
     words.split_at_checked(1 + arguments)
+}
+
+/// How many numbers a call's answer takes.
+fn numbers_of(number: u32) -> usize {
+    match number {
+        15 => 1 + CONTEXT_WORDS,
+        _ => 1,
+    }
 }
 
 /// FNV-1a of 32 bits over whole words.
@@ -162,28 +177,32 @@ fn read() -> io::Result<File> {
 }
 
 /// Formats a filled memory and performs the calls, showing each answer with the memory after it.
-fn perform(file: &File, mut show: impl FnMut(u32, Result<u32, u32>, &[u32]) -> io::Result<()>) -> io::Result<Vec<u32>> {
+fn perform_all(file: &File, mut show: impl FnMut(u32, Said, &[u32]) -> io::Result<()>) -> io::Result<Vec<u32>> {
     let words = (file.pages * file.edition.page_words()) as u32;
     let mut mem: Vec<u32> = (0..words).map(|i| i.wrapping_mul(2_654_435_761)).collect();
     for line in std::iter::once(&vec![0, file.edition.number]).chain(&file.calls) {
-        if let Some(answer) = call(&mut mem, line[0], &line[1..]) {
-            show(line[0], answer, &mem)?;
+        if let Some(said) = perform(&mut mem, line[0], &line[1..]) {
+            show(line[0], said, &mem)?;
         }
     }
     Ok(mem)
 }
 
 fn run(file: &File, out: &mut impl Write) -> io::Result<()> {
-    perform(file, |_, answer, mem| match answer {
-        Ok(answer) => writeln!(out, "ok {answer} {:016x}", hash(mem)),
-        Err(refusal) => writeln!(out, "no {refusal} {:016x}", hash(mem)),
+    perform_all(file, |_, Said { answer, context }, mem| {
+        let words: Vec<_> = context.into_iter().flatten().map(|word| format!("{word} ")).collect();
+        writeln!(out, "{} {}{:016x}", shown(answer), words.concat(), hash(mem))
     })?;
     Ok(())
 }
 
+fn shown(answer: Answer) -> String {
+    answer.map_or_else(|refusal| format!("no {refusal}"), |word| format!("ok {word}"))
+}
+
 /// The memory at the end, as little-endian words.
 fn dump(file: &File, out: &mut impl Write) -> io::Result<()> {
-    let mem = perform(file, |_, _, _| Ok(()))?;
+    let mem = perform_all(file, |_, _, _| Ok(()))?;
     mem.iter().try_for_each(|word| out.write_all(&word.to_le_bytes()))
 }
 
@@ -206,8 +225,8 @@ fn print_made(seed: &str, count: &str, pages: &str, chosen: &str, out: &mut impl
 /// A table of calls and answers.
 fn cover(file: &File, out: &mut impl Write) -> io::Result<()> {
     let mut cover = Cover::default();
-    perform(file, |number, answer, _| {
-        cover.count(number as usize, answer);
+    perform_all(file, |number, said, _| {
+        cover.count(number as usize, said.answer);
         Ok(())
     })?;
     writeln!(out, "{cover}")
@@ -215,7 +234,7 @@ fn cover(file: &File, out: &mut impl Write) -> io::Result<()> {
 
 /// Damages fresh copies of the final memory; with `wide`, some of them by more words than two.
 fn print_damaged(seed: &str, count: &str, wide: bool, out: &mut impl Write) -> io::Result<()> {
-    let mem = perform(&read()?, |_, _, _| Ok(()))?;
+    let mem = perform_all(&read()?, |_, _, _| Ok(()))?;
     sound(&mem).map_err(|_| io::Error::other("nothing to damage"))?;
     let mut random = Random::new(number(seed)?);
     for _ in 0..number(count)? {

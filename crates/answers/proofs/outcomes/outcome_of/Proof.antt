@@ -62,6 +62,18 @@ enum-told-17 c = search needs
 enum-told-18 : tie.Need-enum-told-18
 enum-told-18 c = search needs
 
+enum-told-19 : tie.Need-enum-told-19
+enum-told-19 c = search needs
+
+enum-told-20 : tie.Need-enum-told-20
+enum-told-20 c = search needs
+
+enum-told-21 : tie.Need-enum-told-21
+enum-told-21 c = search needs
+
+enum-told-22 : tie.Need-enum-told-22
+enum-told-22 c = search needs
+
 returns : tie.Need-returns
 returns c = sym (ap said (c .before .a .given .1))
 
@@ -119,6 +131,18 @@ returns-18 c = sym (ap said (c .enum-told17 .given .1))
 returns-19 : tie.Need-returns-19
 returns-19 c = sym (ap said (c .enum-told18 .given .1))
 
+returns-20 : tie.Need-returns-20
+returns-20 c = sym (ap said (c .enum-told19 .given .1))
+
+returns-21 : tie.Need-returns-21
+returns-21 c = sym (ap said (c .enum-told20 .given .1))
+
+returns-22 : tie.Need-returns-22
+returns-22 c = sym (ap said (c .enum-told21 .given .1))
+
+returns-23 : tie.Need-returns-23
+returns-23 c = sym (ap said (c .enum-told22 .given .1))
+
 pub outcome-of-spec : {M : Type 1} → statement M
 outcome-of-spec =
     tie.close
@@ -142,6 +166,10 @@ outcome-of-spec =
     enum-told-16
     enum-told-17
     enum-told-18
+    enum-told-19
+    enum-told-20
+    enum-told-21
+    enum-told-22
     returns
     returns-2
     returns-3
@@ -160,4 +188,8 @@ outcome-of-spec =
     returns-16
     returns-17
     returns-18
-    returns-19)
+    returns-19
+    returns-20
+    returns-21
+    returns-22
+    returns-23)

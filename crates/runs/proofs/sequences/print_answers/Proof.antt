@@ -6,13 +6,19 @@ use Rattle.runs.proofs.sequences.print_answers.Statement.{statement}
 use Rattle.runs.proofs.sequences.print_answers.Tie as tie
 
 abbrev Inv-loop : tie.InvT-loop
-Inv-loop answers n i₀ i = i ≤ length answers
+Inv-loop answers i₀ i = i ≤ length answers
 
 abbrev μ-loop : tie.MeasureT-loop
-μ-loop answers n i₀ i = length answers - i
+μ-loop answers i₀ i = length answers - i
 
 loop-holds : tie.Need-loop-holds Inv-loop μ-loop
 loop-holds c = search needs
+
+mul-if1 : tie.Need-mul-if1 Inv-loop μ-loop
+mul-if1 c = search needs
+
+shared-slice-read-if1 : tie.Need-shared-slice-read-if1 Inv-loop μ-loop
+shared-slice-read-if1 c = search needs
 
 returns : tie.Need-returns Inv-loop μ-loop
 returns c = search needs
@@ -45,6 +51,8 @@ print-answers-spec =
     Inv-loop
     μ-loop
     loop-holds
+    mul-if1
+    shared-slice-read-if1
     returns
     mul-print-answer
     shared-slice-read-print-answer

@@ -26,13 +26,10 @@ pub fn is_sound<const W: usize>(pages: &[Page<W>]) -> bool {
 fn judged<const W: usize>(pages: &[Page<W>]) -> Judged {
     let sizes = Sizes::of(pages.len())?;
     sound(pages[0][..4] == header(sizes) && is_zero(&pages[0][EDITION + 1..]))?;
-    let five = [
-        root_descriptor(),
-        root_directory(sizes, 0),
-        root_directory(sizes, 1),
-        root_directory(sizes, 2),
-        root_list(sizes),
-    ];
+    let mut descriptor = root_descriptor();
+    descriptor[FLAG] = pages[1][FLAG];
+    let five =
+        [descriptor, root_directory(sizes, 0), root_directory(sizes, 1), root_directory(sizes, 2), root_list(sizes)];
     sound(pages[1..6] == five)?;
     let mut walk = Walk::new(pages, sizes);
     let root = View::at(pages, Partition::<W>::ROOT_PAGE.address(), 0)?;

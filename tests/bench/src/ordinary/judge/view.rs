@@ -28,7 +28,8 @@ impl<'a, const W: usize> View<'a, W> {
         let descriptor = page_at(pages, address)?;
         let list = page_at(pages, descriptor[9])?;
         let used = list[0];
-        sound(descriptor[10] == 0 && is_zero(&descriptor[PARENT + 1..]))?;
+        let most_flag = if W == SMALL { 1 } else { 0 };
+        sound(descriptor[10] == 0 && descriptor[FLAG] <= most_flag && is_zero(&descriptor[FLAG + 1..]))?;
         sound(used % 6 == 1 && used <= 1 + 6 * MOST_THREES && is_zero(&list[used as usize..]))?;
         Some(View {
             pages,
