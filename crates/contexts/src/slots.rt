@@ -47,16 +47,13 @@ pub fn saved_in(b: u32, m: &[u32], p: PhysicalPage, s: u32) -> [u32; SAVED_WORDS
     words
 }
 
-// Slot s is lent as its own part, and the words ws stand at its start.
+// The words ws stand at the start of slot s.
 pub fn save_in(b: u32, m: &mut [u32], p: PhysicalPage, s: u32, ws: &[u32])
     requires { ⌜ Width b ⌝ }
     requires small { ⌜ (s ≤ mostSlot) × (length (now ws) ≤ slotWords) ⌝ }
     ensures { λ r. ⌜ now (m .exit) ≡ overwrite (now (m .entry)) (Words.index b (p .0) (slotWords * s)) (now (ws .entry)) ⌝ }
 {
-    let i = SLOT_WORDS * s;
-    let a = pages::least(pages::index(b, p, i), m.len());
-    let e = pages::least(pages::index(b, p, i + SLOT_WORDS), m.len());
-    pages::copy(&mut m[a..e], ws);
+    pages::put_words(m, pages::index(b, p, SLOT_WORDS * s), ws);
 }
 
 // "clears valid", of slot s.

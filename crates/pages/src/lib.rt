@@ -51,6 +51,7 @@ pub use parts::clear;
 pub use parts::copy;
 pub use parts::fill_page;
 pub use parts::least;
+pub use parts::put_words;
 pub use parts::wipe_page;
 pub use parts::words_of;
 pub use sizes::flat_page;

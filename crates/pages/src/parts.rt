@@ -3,7 +3,7 @@ use crate::addresses::PhysicalPage;
 use crate::widths::page_words;
 use crate::words::index;
 ghost use mathlib.Core.Path.{_≡_};
-ghost use Prim.Native.Nat.{min, _≤_};
+ghost use Prim.Native.Nat.{min, _≤_, _<_};
 ghost use lib.ListN.{length, replicate};
 ghost use Rattle.memory.specs.Geometry.{pageWords};
 ghost use Rattle.memory.specs.Words.{page, overwrite, wipe, fill};
@@ -57,6 +57,16 @@ pub fn copy(s: &mut [u32], ws: &[u32])
         s[i] = ws[i];
         i += 1;
     }
+}
+
+// The words ws stand from index i on, in a part that is lent for them; those that would lie past the end are left out.
+pub fn put_words(m: &mut [u32], i: usize, ws: &[u32])
+    requires { ⌜ (i < 8796093022208) × (length (now ws) ≤ 1024) ⌝ }
+    ensures { λ r. ⌜ now (m .exit) ≡ overwrite (now (m .entry)) i (now (ws .entry)) ⌝ }
+{
+    let a = least(i, m.len());
+    let e = least(i + ws.len(), m.len());
+    copy(&mut m[a..e], ws);
 }
 
 // A page is lent as its own part, and filled from its start with the words ws.

@@ -2,7 +2,6 @@
 use pages::PhysicalPage;
 ghost use mathlib.Core.Path.{_≡_};
 ghost use Prim.Native.Nat.{_+_, _*_, _<_, _≤_};
-ghost use lib.ListN.{length};
 ghost use Rattle.memory.specs.Words;
 ghost use Rattle.memory.specs.Words.{word, put, page, overwrite, fill};
 ghost use Rattle.memory.specs.Partition.{directory, shadow1, shadow2, list, tableFor};
@@ -37,23 +36,13 @@ pub fn put_three(b: u32, m: &mut [u32], r: Roots, i: u32, x: u32, y: u32, z: u32
     pages::write_word(b, m, r.shadow2, i, z);
 }
 
-// The words ws stand from index i on; those that would lie past the end are left out.
-fn put_words(m: &mut [u32], i: usize, ws: &[u32])
-    requires { ⌜ (i < 8796093022208) × (length (now ws) ≤ 1024) ⌝ }
-    ensures { λ r. ⌜ now (m .exit) ≡ overwrite (now (m .entry)) i (now (ws .entry)) ⌝ }
-{
-    let a = pages::least(i, m.len());
-    let e = pages::least(i + ws.len(), m.len());
-    pages::copy(&mut m[a..e], ws);
-}
-
 // "appends to list": the six words ws stand from the first free one on, and word 0 rises by 6.
 pub fn append_three(b: u32, m: &mut [u32], l: PhysicalPage, free: u32, ws: &[u32; 6])
     requires { ⌜ Width b ⌝ }
     requires few { ⌜ free ≤ 61 ⌝ }
     ensures { λ r. ⌜ now (m .exit) ≡ put b (overwrite (now (m .entry)) (Words.index b (l .0) free) (now (ws .entry))) (l .0) 0 (free + 6) ⌝ }
 {
-    put_words(m, pages::index(b, l, free), ws);
+    pages::put_words(m, pages::index(b, l, free), ws);
     pages::write_word(b, m, l, 0, free + 6);
 }
 
@@ -86,7 +75,7 @@ fn drop_three(b: u32, m: &mut [u32], l: PhysicalPage, j: u32)
     let free = pages::read_word(b, m, l, 0);
     let mut later = [0u32; 60];
     let n = moves::save(b, m, l, 7 + 6 * j, free - (7 + 6 * j), &mut later);
-    put_words(m, pages::index(b, l, 1 + 6 * j), &later[0..n + 6]);
+    pages::put_words(m, pages::index(b, l, 1 + 6 * j), &later[0..n + 6]);
     pages::write_word(b, m, l, 0, free - 6);
 }
 

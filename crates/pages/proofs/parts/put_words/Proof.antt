@@ -1,14 +1,14 @@
--- `threes::lists::put_words` meets its contract. The part that was lent comes back written, and the words around it as they were. Assumes nothing.
-use mathlib.Core.List.{List, _++_}
+-- `pages::parts::put_words` meets its contract. The part that was lent comes back written, and the words around it as they were. Assumes nothing.
 use mathlib.Core.Path.{ap, _∙_}
+use mathlib.Core.List.{List, _++_}
 use Prim.Native.Nat.{ℕ, _-_}
 use native.Mathlib.Nat.{le-refl}
 use native.Mathlib.Omega.{arith}
 use lib.ListN.{length, take, drop}
 use borrow.Author.Needs.{needs}
 use Rattle.memory.proofs.Overwrite.{part-back}
-use Rattle.threes.proofs.lists.put_words.Statement.{statement}
-use Rattle.threes.proofs.lists.put_words.Tie as tie
+use Rattle.pages.proofs.parts.put_words.Statement.{statement}
+use Rattle.pages.proofs.parts.put_words.Tie as tie
 
 least-requires : tie.Need-least-requires
 least-requires c κs = search needs
