@@ -6,7 +6,7 @@ use Prim.Native.Nat.{ℕ, zero, suc, _+_, _*_, _≤_, _<_}
 use native.Mathlib.Omega.{arith}
 use lib.ListN.{length, drop, length-append}
 use Rattle.memory.specs.Words.{overwrite}
-use Rattle.memory.proofs.Overwrite.{length-overwrite}
+use Rattle.common.proofs.Overwrite.{length-overwrite}
 use Rattle.rules.specs.Bytes.{littleEndian}
 use Rattle.script.specs.Lines.{Put}
 use Rattle.script.proofs.Puts.{put-then, put-same}

@@ -1,7 +1,8 @@
 -- The table of cases holds: computed, without the test of soundness. Assumes nothing.
 use mathlib.Core.Path.{_≡_, refl, fun-ext}
 use mathlib.Core.Bool.{true}
-use Rattle.cases.specs.Cases.{allHold, createFive, sixRecords, rows, formatting, reached, table}
+use Rattle.common.specs.Expected.{allHold}
+use Rattle.cases.specs.Cases.{createFive, sixRecords, rows, formatting, reached, table}
 use Rattle.cases.proofs.Reached.{reachedLater, reached-is, formattingWords, formatting-is}
 use Rattle.cases.proofs.Computing.{computing}
 

@@ -5,7 +5,7 @@ use Rattle.memory.specs.Words.{tabulate, fill, wipe}
 use Rattle.memory.specs.Format.{formatWord, format}
 use Rattle.memory.specs.Partition.{tableWord, putTableWord}
 use Rattle.memory.specs.Contexts.{slotsAt}
-use Rattle.rules.specs.Row.{first, reply, pass}
+use Rattle.common.specs.Row.{first, reply, pass}
 use Rattle.rules.specs.Call.{choice, resumption}
 use Rattle.rules.specs.Conditions.{target}
 use Rattle.rules.specs.Moves.{mark, takePage, returnPage, depth}

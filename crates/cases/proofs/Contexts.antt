@@ -3,11 +3,11 @@ use mathlib.Core.Path.{_≡_, refl, fun-ext}
 use mathlib.Core.Option.{some}
 use mathlib.Core.Bool.{true, _&&_}
 use mathlib.Core.List.{List, [], _∷_}
+use Rattle.common.specs.Expected.{allHold, same, sameWords, sameLists}
 use Rattle.rules.specs.Row.{no}
 use Rattle.rules.specs.Call.{Call, notify, dispatch, resume}
-use Rattle.cases.specs.Cases.{allHold, reached}
-use Rattle.cases.specs.Morning.{same}
-use Rattle.cases.specs.Contexts.{upFrom, worked, workedAnswers, workedContexts, sameWords, sameLists, answered, resumedWords, flagRows, flags}
+use Rattle.cases.specs.Cases.{reached}
+use Rattle.cases.specs.Contexts.{upFrom, worked, workedAnswers, workedContexts, answered, resumedWords, flagRows, flags}
 use Rattle.cases.proofs.Reached.{reachedLater, reached-is, answersToLater, answersTo-is, contextsToLater, contextsTo-is}
 use Rattle.cases.proofs.Computing.{computing}
 

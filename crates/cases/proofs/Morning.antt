@@ -3,10 +3,11 @@ use mathlib.Core.Path.{_≡_, refl, ap}
 use mathlib.Core.List.{List}
 use mathlib.Core.Bool.{Bool, true, _&&_}
 use Prim.Native.Nat.{ℕ}
+use Rattle.common.specs.Expected.{same}
 use Rattle.memory.specs.Geometry.{widthOf}
 use Rattle.rules.specs.Row.{Answer}
 use Rattle.rules.specs.Replay.{script}
-use Rattle.cases.specs.Morning.{scriptWords, fifteenAnswers, bytesOf, same, morning}
+use Rattle.cases.specs.Morning.{scriptWords, fifteenAnswers, bytesOf, morning}
 use Rattle.cases.proofs.Reached.{answersToLater, answersTo-is}
 use Rattle.cases.proofs.Computing.{computing}
 

@@ -12,6 +12,7 @@ use lib.Seq.{getD-take, getD-drop}
 use Rattle.walk.specs.Reflect.{Tells, via, eq?, lt?, both, isn't, unless}
 use Rattle.walk.specs.Finite.{from, below, all, image, all?}
 use Rattle.walk.specs.Lists.{flat}
+use Rattle.common.specs.Expected.{same, sameWords}
 use Rattle.memory.specs.Edition.{width}
 use Rattle.memory.specs.Geometry.{widthOf, pageWords, addressEnd, address, pageOf}
 use Rattle.memory.specs.Words.{start, word, page}
@@ -31,7 +32,6 @@ use Rattle.claim.specs.Kept.{Maps}
 use Rattle.neighbours.specs.Neighbours.{Shown, EqualOn}
 use Rattle.neighbours.proofs.Twin.{shown-split}
 use Rattle.cases.specs.Cases.{reached}
-use Rattle.cases.specs.Morning.{same}
 use Rattle.cases.specs.Pair.{calls, firstCalls, secondCalls, first, second, thenB, okBut, Pair}
 use Rattle.cases.proofs.Reached.{reachedLater, reached-is, answersToLater, answersTo-is}
 use Rattle.cases.proofs.Computing.{computing}
@@ -40,12 +40,6 @@ use Rattle.cases.proofs.Computing.{computing}
 
 so? : {t : Bool} → Tells t (t ≡ true)
 so? = ((λ q. q), λ q. q)
-
-unfoldable sameWords : List ℕ → List ℕ → Bool
-sameWords [] [] = true
-sameWords [] (y ∷ ys) = false
-sameWords (x ∷ xs) [] = false
-sameWords (x ∷ xs) (y ∷ ys) = eqb x y && sameWords xs ys
 
 same-words : (xs ys : List ℕ) → sameWords xs ys ≡ true → xs ≡ ys
 unfolding sameWords

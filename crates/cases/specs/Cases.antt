@@ -1,9 +1,8 @@
 -- The cases that document 01 marks P, and those of document 02, L4, as one table: what the rules give, and what is written. Assumes nothing.
 use mathlib.Core.List.{List, [], _∷_}
-use mathlib.Core.Bool.{Bool, true, _&&_}
 use Prim.Native.Nat.{ℕ, _-_, _*_, _^_}
-use lib.Dec.{eqb}
 use lib.ListN.{replicate}
+use Rattle.common.specs.Expected.{Row, _is_}
 use Rattle.memory.specs.Geometry.{widthOf, pageWords, pageBytes, mostPages, threesFor, flatPages}
 use Rattle.memory.specs.Words.{word}
 use Rattle.memory.specs.Format.{format}
@@ -14,14 +13,6 @@ use Rattle.rules.specs.Call.{Call, formatAll, createPartition, pageCount, store
 use Rattle.rules.specs.Conditions.{badPage}
 use Rattle.rules.specs.Refusals.{refusal}
 use Rattle.rules.specs.Editions.{run}
-
-infix 68 _is_
-pub data Row : Type 0 where
-  _is_ : ℕ → ℕ → Row
-
-abbrev pub allHold : List Row → Bool
-allHold [] = true
-allHold (x is y ∷ rs) = eqb x y && allHold rs
 
 -- create over the first five pages, and the first six records of "A bench morning"; every page address times k, 1 or, in the new edition, 16
 unfoldable pub createFive : ℕ → Call

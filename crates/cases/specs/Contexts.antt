@@ -5,6 +5,7 @@ use mathlib.Core.Bool.{Bool, true, false, _&&_}
 use Prim.Native.Nat.{ℕ, _+_}
 use lib.Dec.{eqb}
 use lib.ListN.{take, replicate}
+use Rattle.common.specs.Expected.{Row, _is_, same, sameLists}
 use Rattle.memory.specs.Geometry.{widthOf}
 use Rattle.memory.specs.Words.{word}
 use Rattle.memory.specs.Format.{format}
@@ -13,8 +14,8 @@ use Rattle.rules.specs.Row.{Answer, ok, no}
 use Rattle.rules.specs.Call.{Call, Registers, createPartition, addVAddr, prepare, enter, leave, store, notify, dispatch, resume}
 use Rattle.rules.specs.Calls.{noContext}
 use Rattle.rules.specs.Editions.{contexts}
-use Rattle.cases.specs.Cases.{Row, _is_, reached}
-use Rattle.cases.specs.Morning.{answersTo, same}
+use Rattle.cases.specs.Cases.{reached}
+use Rattle.cases.specs.Morning.{answersTo}
 
 -- eight registers, counted up from n
 unfoldable pub upFrom : ℕ → Registers
@@ -43,18 +44,6 @@ workedContexts =
     replicate 11 [] ++ (noContext ∷ noContext ∷ [] ∷ noContext ∷ []
     ∷ (7 ∷ 1 ∷ 8 ∷ 11 ∷ 12 ∷ 13 ∷ 14 ∷ 15 ∷ 16 ∷ 17 ∷ 18 ∷ []) ∷ (100 ∷ 0 ∷ 200 ∷ 1 ∷ 2 ∷ 3 ∷ 4 ∷ 5 ∷ 6 ∷ 7 ∷ 8 ∷ [])
     ∷ [] ∷ noContext ∷ [] ∷ [] ∷ [])
-
-unfoldable pub sameWords : List ℕ → List ℕ → Bool
-sameWords [] [] = true
-sameWords [] (y ∷ ys) = false
-sameWords (x ∷ xs) [] = false
-sameWords (x ∷ xs) (y ∷ ys) = let r = sameWords xs ys in eqb x y && r
-
-unfoldable pub sameLists : List (List ℕ) → List (List ℕ) → Bool
-sameLists [] [] = true
-sameLists [] (y ∷ ys) = false
-sameLists (x ∷ xs) [] = false
-sameLists (x ∷ xs) (y ∷ ys) = let r = sameLists xs ys in sameWords x y && r
 
 -- what the calls answer beside on a fresh memory of n pages in edition e
 unfoldable pub contextsTo : ℕ → ℕ → List Call → List (List ℕ)

@@ -1,9 +1,9 @@
 -- The fifteen answers of "A bench morning" from the rules alone, in both editions. Assumes nothing.
 use mathlib.Core.List.{List, [], _∷_, _++_}
 use mathlib.Core.Option.{Option, none, some}
-use mathlib.Core.Bool.{Bool, true, false, _&&_}
+use mathlib.Core.Bool.{Bool}
 use Prim.Native.Nat.{ℕ, _+_, _*_}
-use lib.Dec.{eqb}
+use Rattle.common.specs.Expected.{same}
 use Rattle.memory.specs.Geometry.{widthOf}
 use Rattle.memory.specs.Format.{format}
 use Rattle.rules.specs.Row.{Answer, ok, no}
@@ -32,15 +32,6 @@ bytesOf (w ∷ ws) = littleEndian w ++ bytesOf ws
 unfoldable pub answersTo : ℕ → ℕ → Option (List Call) → List Answer
 answersTo e n none = []
 answersTo e n (some cs) = answers (format (widthOf e) n) cs
-
-unfoldable pub same : List Answer → List Answer → Bool
-same [] [] = true
-same [] (b ∷ bs) = false
-same (a ∷ x) [] = false
-same (ok x ∷ xs) (ok y ∷ ys) = let r = same xs ys in eqb x y && r
-same (no x ∷ xs) (no y ∷ ys) = let r = same xs ys in eqb x y && r
-same (ok x ∷ xs) (no y ∷ ys) = false
-same (no x ∷ xs) (ok y ∷ ys) = false
 
 -- the morning in edition e, every page address times k
 unfoldable pub morning : ℕ → ℕ → Bool

@@ -5,6 +5,7 @@ use mathlib.Core.Option.{some}
 use mathlib.Core.Bool.{true, _&&_}
 use Prim.Native.Nat.{ℕ}
 use lib.ListN.{replicate}
+use Rattle.common.specs.Expected.{same}
 use Rattle.memory.specs.Words.{word}
 use Rattle.memory.specs.Entry.{rights}
 use Rattle.memory.specs.Partition.{mapping, lent}
@@ -12,7 +13,7 @@ use Rattle.rules.specs.Row.{Answer, ok, no}
 use Rattle.rules.specs.Call.{Call, createPartition, addVAddr, prepare, enter, leave, load, store}
 use Rattle.neighbours.specs.Neighbours.{Alike}
 use Rattle.cases.specs.Cases.{reached}
-use Rattle.cases.specs.Morning.{answersTo, same}
+use Rattle.cases.specs.Morning.{answersTo}
 
 -- In the old edition with 32 pages the root's address 256v is page 8 + v. The root makes a child A, page 9, and lends it nine pages. A makes a child B,
 -- page 17, of eight of them, and lends it the ninth, page 25, with read alone. In the end B is current.

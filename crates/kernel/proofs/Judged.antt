@@ -6,6 +6,7 @@ use mathlib.Core.Logic.{_↔_}
 use Prim.Native.Nat.{ℕ, _<_}
 use native.Mathlib.Omega.{arith}
 use lib.ListN.{length}
+use Rattle.common.specs.Row
 use Rattle.memory.specs.Geometry.{widths, widthOf}
 use Rattle.memory.specs.Edition.{edition, width}
 use Rattle.memory.specs.Sound.{Sound}
@@ -18,15 +19,15 @@ use Rattle.kernel.specs.Verdict.{verdict}
 
 module _ (m : List ℕ) where
   pub verdict-sound : soundTest (width m) m ≡ true → verdict m ≡ 0
-  unfolding first
+  unfolding Row.first
   verdict-sound e = rw e
 
   pub verdict-damaged : soundTest (width m) m ≡ false → verdict m ≡ 1
-  unfolding first
+  unfolding Row.first
   verdict-damaged e = rw e
 
   test-passed : (t : Bool) → first (DAMAGED when not t ∷ []) ≡ 0 → t ≡ true
-  unfolding first
+  unfolding Row.first
   test-passed true e = refl
   test-passed false e = absurd (omega arith)
 

@@ -7,7 +7,7 @@ use Prim.Native.Nat.{ℕ, _+_}
 use native.Mathlib.Omega.{arith}
 use lib.ListN.{length, getD, set, length-set}
 use Rattle.memory.specs.Words.{overwrite}
-use Rattle.memory.proofs.Overwrite.{length-overwrite}
+use Rattle.common.proofs.Overwrite.{length-overwrite}
 use Rattle.rules.specs.Row.{Answer}
 use Rattle.rules.specs.Call.{Call, resume, resumption}
 use Rattle.rules.specs.Editions.{answer, after, context}

@@ -1,5 +1,4 @@
 pub mod Geometry
-pub mod Overwrite
 pub mod Entry
 pub mod Pages
 pub mod Format

@@ -9,7 +9,7 @@ use native.Mathlib.Omega.{arith}
 use lib.ListN.{length, getD, take, drop, replicate, length-replicate, getD-replicate, length-take, length-drop}
 use Rattle.memory.specs.Geometry.{pageWords}
 use Rattle.memory.specs.Words.{start, index, word, overwrite, fill, wipe}
-use Rattle.memory.proofs.Overwrite.{length-overwrite, overwrite-before, overwrite-after, overwrite-at, part-back, zeros}
+use Rattle.common.proofs.Overwrite.{length-overwrite, overwrite-before, overwrite-after, overwrite-at, part-back, zeros}
 
 pub three-ways : (x y : ℕ) → (x < y) ⊎ ((x ≡ y) ⊎ (y < x))
 three-ways x y = pick (decLt x y) (decLt y x)

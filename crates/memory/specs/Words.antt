@@ -2,14 +2,8 @@
 use mathlib.Core.List.{List, [], _∷_}
 use Prim.Native.Nat.{ℕ, zero, suc, _+_, _*_}
 use lib.ListN.{getD, set, take, drop, replicate}
+pub use Rattle.common.specs.Words.{overwrite}
 use Rattle.memory.specs.Geometry.{pageWords}
-
--- the words ws written from index i on; what would lie past the end is dropped
-abbrev pub overwrite : List ℕ → ℕ → List ℕ → List ℕ
-overwrite [] i ws = []
-overwrite (x ∷ xs) zero [] = x ∷ xs
-overwrite (x ∷ xs) zero (w ∷ ws) = w ∷ overwrite xs zero ws
-overwrite (x ∷ xs) (suc i) ws = x ∷ overwrite xs i ws
 
 -- f at i, i + 1, .., n numbers in all
 unfoldable pub tabulate : ℕ → ℕ → (ℕ → ℕ) → List ℕ

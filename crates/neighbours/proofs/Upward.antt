@@ -7,6 +7,7 @@ use mathlib.Core.Bool.{Bool, true, false, cond}
 use Prim.Native.Nat.{ℕ, _%_, _≤_, _<_}
 use native.Mathlib.Omega.{arith}
 use borrow.Author.Tests.{eqb-false}
+use Rattle.common.specs.Row
 use Rattle.memory.specs.Partition.{current, parent}
 use Rattle.memory.specs.Tree.{InTree, root, child}
 use Rattle.memory.specs.Sound.{Sound}
@@ -89,7 +90,7 @@ module _ {b : ℕ} (wide : 6 ≤ b) {m : List ℕ} (s : Sound b m) where
   rest = SLOT when badSlot 0 toChildSlot ∷ SLOT-PAGE when noSlots b m (target b m 0) ∷ EMPTY-SLOT when emptySlot b m 0 toChildSlot ∷ []
 
   passes : first (toward b m 0) ≡ 0 → noSlots b m (parent b m o) ≡ false → refusal b m (resume 0 toChildSlot) ≡ 0
-  unfolding refusals target first
+  unfolding refusals target Row.first
   passes h n = sym (goes-on (toward b m 0) rest (first (toward b m 0)) refl h) ∙ ap (λ (z : Bool). cond z 20 0) n
 
   pub refused-above : {B k : ℕ} → o ≡ B → InTree b m k B → first (toward b m 0) ≡ 0 → Sound b (after b m (resume 0 toChildSlot))

@@ -6,7 +6,7 @@ use native.Mathlib.Omega.{arith}
 use native.Mathlib.Nat.{le-refl}
 use lib.ListN.{length, take, drop}
 use Rattle.memory.specs.Words.{overwrite}
-use Rattle.memory.proofs.Overwrite.{part-back}
+use Rattle.common.proofs.Overwrite.{part-back}
 
 -- the part that was lent comes back with the bytes ws at its start
 pub part-written : (m : List ℕ) (i : ℕ) (ws ys : List ℕ) → i + length ws ≤ length m → ys ≡ overwrite (take (i + length ws - i) (drop i m)) 0 ws

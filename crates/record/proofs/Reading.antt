@@ -9,6 +9,7 @@ use native.Mathlib.Omega.{arith}
 use lib.Dec.{eqb, ltb}
 use lib.ListN.{length, getD, take, drop}
 use borrow.Author.Tests.{lt-ltb, le-ltb, eq-eqb, ne-eqb}
+use Rattle.common.specs.Row
 use Rattle.rules.specs.Bytes.{wordIn}
 use Rattle.rules.specs.Row.{first}
 use Rattle.rules.specs.Record.{hasMagic, readerRefusals, readerRefusal, recordBegin, recordEnd, revisionOf}
@@ -67,7 +68,7 @@ module _ (bs : List ℕ) where
 
   -- it is one of the eighteen
   pub refusal-small : readerRefusal bs ≤ 18
-  unfolding readerRefusals first
+  unfolding readerRefusals Row.first
   refusal-small = least (ltb (length bs) 76) (not (hasMagic bs) || ltb (wordIn bs 8) (wordIn bs 4))
 
   -- ---- what is read, where r is the refusal

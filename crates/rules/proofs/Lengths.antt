@@ -11,7 +11,7 @@ use Rattle.memory.specs.Words.{fill, wipe}
 use Rattle.memory.specs.Format.{format}
 use Rattle.memory.specs.Partition.{parent, lent, mapping}
 use Rattle.memory.specs.Contexts.{valid}
-use Rattle.memory.proofs.Overwrite.{length-overwrite}
+use Rattle.common.proofs.Overwrite.{length-overwrite}
 use Rattle.memory.proofs.Pages.{length-wipe}
 use Rattle.memory.proofs.Tables.{length-putTableWord}
 use Rattle.memory.proofs.Format.{length-tabulate}

@@ -7,7 +7,7 @@ use native.Mathlib.Omega.{arith}
 use lib.ListN.{length}
 use Rattle.memory.specs.Words.{overwrite}
 use Rattle.memory.specs.Format.{format}
-use Rattle.memory.proofs.Overwrite.{length-overwrite}
+use Rattle.common.proofs.Overwrite.{length-overwrite}
 use Rattle.rules.specs.Row.{Answer}
 use Rattle.rules.specs.Bytes.{wordIn}
 use Rattle.rules.specs.Editions.{answer, after}

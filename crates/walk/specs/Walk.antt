@@ -24,7 +24,7 @@ clear n = replicate n 0
 clear-length : (n : ℕ) → length (clear n) ≡ n
 clear-length n = length-replicate n _
 
-zeros-at : (n p : ℕ) → getD (clear n) p 0 ≡ 0
+pub zeros-at : (n p : ℕ) → getD (clear n) p 0 ≡ 0
 zeros-at n p = elim (decLt p n) [ yes h ↦ getD-replicate n p 0 0 h | no h ↦ List·getD-eq-default (clear n) 0 (omega (arith, clear-length n)) ]
 
 module _ (kids own : ℕ → List ℕ) (ok : ℕ → Bool) where

@@ -16,7 +16,7 @@ use Rattle.memory.specs.Geometry
 use Rattle.memory.specs.Words as Mem
 use Rattle.memory.specs.Entry
 use Rattle.memory.proofs.Geometry.{index-inj, page-address, address-inj}
-use Rattle.memory.proofs.Overwrite.{length-overwrite, overwrite-before, overwrite-after, overwrite-at}
+use Rattle.common.proofs.Overwrite.{length-overwrite, overwrite-before, overwrite-after, overwrite-at}
 use Rattle.memory.proofs.Pages.{page-apart, wipe-frame, wipe-own, length-wipe}
 use Rattle.memory.proofs.Entry.{entry-page, entry-accessible, entry-rights}
 use Rattle.memory.proofs.Widths.{words-least}

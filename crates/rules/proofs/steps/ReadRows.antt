@@ -5,6 +5,7 @@ use mathlib.Core.Bool.{Bool, true, false, cond}
 use Prim.Native.Nat.{ℕ, _<_}
 use borrow.Author.Tests.{leb-false}
 use Rattle.memory.specs.Geometry.{addressEnd}
+use Rattle.common.specs.Row
 use Rattle.rules.specs.Refusal.{Refusal, number}
 use Rattle.rules.specs.Row.{Check, _when_, first}
 use Rattle.rules.specs.Conditions.{badAddress}
@@ -12,7 +13,7 @@ use Rattle.rules.proofs.steps.Checks.{false-or}
 
 -- a test that is the same in both, and what follows it
 pub row : (r : Refusal) (s t : Bool) (cs ds : List Check) → s ≡ t → (s ≡ false → first cs ≡ first ds) → first (r when s ∷ cs) ≡ first (r when t ∷ ds)
-unfolding first
+unfolding Row.first
 row r s t cs ds e h = go s h ∙ ap (λ (x : Bool). cond x (number r) (first ds)) e
   where
     go : (s : Bool) → (s ≡ false → first cs ≡ first ds) → cond s (number r) (first cs) ≡ cond s (number r) (first ds)

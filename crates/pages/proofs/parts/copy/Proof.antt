@@ -5,7 +5,7 @@ use native.Mathlib.Omega.{arith}
 use lib.ListN.{length, take, length-set}
 use borrow.Author.Needs.{needs}
 use Rattle.memory.specs.Words.{overwrite}
-use Rattle.memory.proofs.Overwrite.{copy-none, copy-more, copy-all}
+use Rattle.common.proofs.Overwrite.{copy-none, copy-more, copy-all}
 use Rattle.pages.proofs.parts.copy.Statement.{statement}
 use Rattle.pages.proofs.parts.copy.Tie as tie
 

@@ -6,7 +6,7 @@ use native.Mathlib.Nat.{le-refl}
 use native.Mathlib.Omega.{arith}
 use lib.ListN.{length, take, drop}
 use borrow.Author.Needs.{needs}
-use Rattle.memory.proofs.Overwrite.{part-back}
+use Rattle.common.proofs.Overwrite.{part-back}
 use Rattle.pages.proofs.parts.put_words.Statement.{statement}
 use Rattle.pages.proofs.parts.put_words.Tie as tie
 

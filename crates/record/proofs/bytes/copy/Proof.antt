@@ -4,7 +4,7 @@ use Prim.Native.Nat.{_≤_, _-_}
 use native.Mathlib.Omega.{arith}
 use lib.ListN.{length, take, length-set}
 use borrow.Author.Needs.{needs}
-use Rattle.memory.proofs.Overwrite.{copy-none, copy-more, copy-all}
+use Rattle.common.proofs.Overwrite.{copy-none, copy-more, copy-all}
 use Rattle.memory.specs.Words.{overwrite}
 use Rattle.record.proofs.bytes.copy.Statement.{statement}
 use Rattle.record.proofs.bytes.copy.Tie as tie

@@ -8,7 +8,7 @@ use native.Mathlib.Decide.{decLe}
 use native.Mathlib.Omega.{arith}
 use native.Mathlib.Numerals.{add-one}
 use lib.ListN.{length, getD, set, take, drop, replicate, take-append-drop}
-use Rattle.memory.specs.Words.{overwrite}
+use Rattle.common.specs.Words.{overwrite}
 
 pub length-overwrite : (m : List ℕ) (i : ℕ) (ws : List ℕ) → length (overwrite m i ws) ≡ length m
 length-overwrite [] i ws = refl
@@ -42,6 +42,13 @@ pub overwrite-past : (m : List ℕ) (i : ℕ) (ws : List ℕ) → length m ≤ i
 overwrite-past [] i ws h = refl
 overwrite-past (x ∷ xs) zero ws h = absurd (not-suc-le-zero h)
 overwrite-past (x ∷ xs) (suc i) ws h = ap (λ (l : List ℕ). x ∷ l) (overwrite-past xs i ws (le-of-suc-le-suc h))
+
+-- one word
+pub overwrite-one : (m : List ℕ) (i x : ℕ) → overwrite m i (x ∷ []) ≡ set m i x
+overwrite-one [] i x = refl
+overwrite-one (y ∷ []) zero x = refl
+overwrite-one (y ∷ z ∷ m) zero x = refl
+overwrite-one (y ∷ m) (suc i) x = ap (λ (l : List ℕ). y ∷ l) (overwrite-one m i x)
 
 head-part : (m : List ℕ) (j : ℕ) (ws : List ℕ) → (length ws ≤ j) ⊎ (length m ≤ j) → overwrite (take j m) 0 ws ++ drop j m ≡ overwrite m 0 ws
 head-part [] zero ws h = refl

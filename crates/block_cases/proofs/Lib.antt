@@ -1,0 +1,4 @@
+pub mod Later
+pub mod Computing
+pub mod Case
+pub mod Table

@@ -1,0 +1,3 @@
+pub mod Kept
+pub mod Barred
+pub mod Demand3

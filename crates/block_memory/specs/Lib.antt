@@ -1,0 +1,6 @@
+pub mod Geometry
+pub mod Words
+pub mod Partition
+pub mod Format
+pub mod Bytes
+pub mod Sound

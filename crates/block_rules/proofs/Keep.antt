@@ -1,0 +1,183 @@
+-- A block keeps its sentences 6 to 9 where the words that they look at stay. Assumes nothing.
+use mathlib.Core.Path.{_≡_, refl, sym, ap, ap₂, _∙_, subst}
+use mathlib.Core.List.{List}
+use mathlib.Core.Bool.{Bool, cond}
+use mathlib.Core.Logic.{_≢_}
+use Prim.Native.Nat.{ℕ, _+_, _*_, _/_}
+use native.Mathlib.Omega.{arith}
+use native.Mathlib.Decide.{ℕ-discrete}
+use lib.Bits.{bitAnd}
+use lib.Dec.{eqb}
+use lib.ListN.{length}
+use borrow.Author.Tests.{eq-eqb, ne-eqb}
+use Rattle.block_memory.specs.Geometry.{wordFrom, firstByte}
+use Rattle.block_memory.specs.Words.{word}
+use Rattle.block_memory.specs.Partition.{root, Partition, parent, number, structure, field, start, end, rights, used, child, link, source, previous, next, place, named}
+use Rattle.block_memory.specs.Sound.{Form, Use, Source, Next, Pieces, sourceStart, sourceEnd, sourceLink}
+
+-- the two halves of sentence 9
+abbrev pub Front : List ℕ → ℕ → ℕ → Type 0
+Front m d n = (previous m d n ≡ 0 → (start m d n ≡ sourceStart m d n) × (sourceLink m d n ≡ n)) × (previous m d n ≢ 0 → next m d (previous m d n) ≡ n)
+
+abbrev pub Back : List ℕ → ℕ → ℕ → Type 0
+Back m d n = (next m d n ≡ 0 → end m d n ≡ sourceEnd m d n) × (next m d n ≢ 0 → Next m d n)
+
+pub pieces-of : {m : List ℕ} {d n : ℕ} → Front m d n → Back m d n → Pieces m d n
+pieces-of f b = record { first = f .0; later = f .1; last = b .0; more = b .1 }
+
+module _ (m m' : List ℕ) where
+  -- word g of block n of d stays
+  abbrev pub Same : ℕ → ℕ → ℕ → Type 0
+  Same d n g = field m' d n g ≡ field m d n g
+
+  -- ---- 6
+
+  pub form-kept : {d n : ℕ} → length m' ≡ length m → Same d n 0 → Same d n 1 → Same d n 2 → Same d n 3 → Form m d n → Form m' d n
+  form-kept z a b c e f = record {
+    long = omega (arith, f .long);
+    inside = omega (arith, f .inside);
+    fewRights = omega (arith, f .fewRights);
+    known = omega (arith, f .known);
+  }
+
+  -- ---- 7
+
+  pub record UseKept (d n : ℕ) : Type 0 where
+    pub starts : Same d n 0
+    pub ends : used m d n ≢ 1 → Same d n 1
+    pub uses : Same d n 3
+    pub childs : Same d n 4
+    pub links : Same d n 5
+    -- the child that it names
+    pub kid : used m d (child m d n) ≡ 3 → Same d (child m d n) 0 × Same d (child m d n) 3
+    -- the first piece
+    pub first : used m d n ≡ 2 → Same (place m d (child m d n)) (link m d n) 6 × Same (place m d (child m d n)) (link m d n) 7
+    -- the descriptor or the structure that stands in it
+    pub desc : used m d n ≡ 3 → Partition m' (place m d n) × (parent m' (place m d n) ≡ parent m (place m d n)) × (number m' (place m d n) ≡ number m (place m d n))
+    pub struct : used m d n ≡ 4
+        → (structure m' (named m d (child m d n)) (link m d n) ≡ structure m (named m d (child m d n)) (link m d n))
+        × (word m' (place m d n) ≡ word m (place m d n)) × (word m' (place m d n + 1) ≡ word m (place m d n + 1))
+
+  pub named-same : (d c : ℕ) → (c ≢ 0 → Same d c 0) → named m' d c ≡ named m d c
+  named-same d c h = elim (ℕ-discrete c 0) [
+    | yes z ↦ ap (λ (t : Bool). cond t d (place m' d c)) (eq-eqb c 0 z) ∙ sym (ap (λ (t : Bool). cond t d (place m d c)) (eq-eqb c 0 z))
+    | no z ↦ ap (λ (t : Bool). cond t d (place m' d c)) (ne-eqb c 0 z) ∙ ap wordFrom (h z) ∙ sym (ap (λ (t : Bool). cond t d (place m d c)) (ne-eqb c 0 z))
+  ]
+
+  pub use-kept : {d n : ℕ} → UseKept d n → Use m d n → Use m' d n
+  use-kept {d} {n} k u =
+      let at : place m' d n ≡ place m d n = ap wordFrom (k .starts) in
+      record {
+        use1 = λ e. let h = u .use1 (sym (k .uses) ∙ e) in record { noChild = k .childs ∙ h .noChild; noLink = k .links ∙ h .noLink };
+        use2 = λ e.
+            let e' = sym (k .uses) ∙ e in
+            let h = u .use2 e' in
+            let (a, b) = k .kid (h .toChild) in
+            let (x, y) = k .first e' in
+            let t : place m' d (child m' d n) ≡ place m d (child m d n) = ap (λ (c : ℕ). place m' d c) (k .childs) ∙ ap wordFrom a in
+            record {
+              toChild = ap (λ (c : ℕ). used m' d c) (k .childs) ∙ b ∙ h .toChild;
+              fromThis = ap₂ (λ (p q : ℕ). source m' p q) t (k .links) ∙ x ∙ h .fromThis;
+              first = ap₂ (λ (p q : ℕ). previous m' p q) t (k .links) ∙ y ∙ h .first;
+            };
+        use3 = λ e.
+            let e' = sym (k .uses) ∙ e in
+            let h = u .use3 e' in
+            let (a, b, c) = k .desc e' in
+            let en = k .ends (λ z. omega (arith, z, e')) in
+            record {
+              noChild = k .childs ∙ h .noChild;
+              noLink = k .links ∙ h .noLink;
+              room = omega (arith, h .room, at, en);
+              listed = subst (Partition m') (sym at) a;
+              parentWord = ap (parent m') at ∙ b ∙ h .parentWord;
+              numberWord = ap (number m') at ∙ c ∙ h .numberWord;
+            };
+        use4 = λ e.
+            let e' = sym (k .uses) ∙ e in
+            let h = u .use4 e' in
+            let (a, b, c) = k .struct e' in
+            let en = k .ends (λ z. omega (arith, z, e')) in
+            let w : named m' d (child m' d n) ≡ named m d (child m d n) = ap (named m' d) (k .childs) ∙ named-same d (child m d n) (λ z. k .kid (h .whose z) .0) in
+            record {
+              whose = λ z. let z' : child m d n ≢ 0 = λ y. z (k .childs ∙ y) in ap (λ (x : ℕ). used m' d x) (k .childs) ∙ k .kid (h .whose z') .1 ∙ h .whose z';
+              room = omega (arith, h .room, at, en);
+              there = ap₂ (λ (p q : ℕ). structure m' p q) w (k .links) ∙ a ∙ h .there ∙ sym at;
+              numberWord = ap (word m') at ∙ b ∙ h .numberWord;
+              ownWord = ap (λ (i : ℕ). word m' (i + 1)) at ∙ c ∙ h .ownWord ∙ sym (ap (λ (x : ℕ). cond (eqb x 0) 1 0) (k .childs));
+            };
+      }
+
+  -- ---- 8 and 9, for block o in place of block n
+
+  -- word g of block o is what word g of block n was
+  abbrev pub Was : ℕ → ℕ → ℕ → ℕ → Type 0
+  Was d o n g = field m' d o g ≡ field m d n g
+
+  root-is : length m' ≡ length m → root m' ≡ root m
+  root-is e = ap (λ (w : ℕ). 8 + w / 32) e
+
+  module _ (d o n : ℕ) (size : length m' ≡ length m) (sources : Was d o n 6) (parents : parent m' d ≡ parent m d) where
+    pub source-from : number m' d ≡ number m d → Was d o n 2
+        → (d ≢ root m → Same (parent m d) (source m d n) 2 × Same (parent m d) (source m d n) 3 × Same (parent m d) (source m d n) 4) → Source m d n → Source m' d o
+    source-from numbers right lent s = record {
+      ofRoot = λ e.
+          let e' : d ≡ root m = e ∙ root-is size in
+          let h = s .ofRoot e' in
+          record {
+            noSource = ap (λ (x : ℕ). source m' x o) (sym e) ∙ sources ∙ ap (λ (x : ℕ). source m x n) e' ∙ h .noSource;
+            all = ap (λ (x : ℕ). rights m' x o) (sym e) ∙ right ∙ ap (λ (x : ℕ). rights m x n) e' ∙ h .all;
+          };
+      ofOther = λ e.
+          let e' : d ≢ root m = λ z. e (z ∙ sym (root-is size)) in
+          let h = s .ofOther e' in
+          let (a, b, c) = lent e' in
+          record {
+            lent = ap₂ (λ (x y : ℕ). used m' x y) parents sources ∙ b ∙ h .lent;
+            toThis = ap₂ (λ (x y : ℕ). child m' x y) parents sources ∙ c ∙ h .toThis ∙ sym numbers;
+            noMore = ap₂ (λ (x y : ℕ). bitAnd x y) right (ap₂ (λ (x y : ℕ). rights m' x y) parents sources ∙ a) ∙ h .noMore ∙ sym right;
+          };
+    }
+
+    at-source : (g a b : ℕ) → a ≡ b → (d ≢ root m → Same (parent m d) (source m d n) g)
+        → cond (eqb d (root m')) a (field m' (parent m' d) (source m' d o) g) ≡ cond (eqb d (root m)) b (field m (parent m d) (source m d n) g)
+    at-source g a b e h =
+        ap (λ (r : ℕ). cond (eqb d r) a (field m' (parent m' d) (source m' d o) g)) (root-is size)
+        ∙ elim (ℕ-discrete d (root m)) [
+          | yes z ↦ ap (λ (t : Bool). cond t a (field m' (parent m' d) (source m' d o) g)) (eq-eqb d (root m) z) ∙ e
+              ∙ sym (ap (λ (t : Bool). cond t b (field m (parent m d) (source m d n) g)) (eq-eqb d (root m) z))
+          | no z ↦ ap (λ (t : Bool). cond t a (field m' (parent m' d) (source m' d o) g)) (ne-eqb d (root m) z)
+              ∙ ap₂ (λ (x y : ℕ). field m' x y g) parents sources ∙ h z
+              ∙ sym (ap (λ (t : Bool). cond t b (field m (parent m d) (source m d n) g)) (ne-eqb d (root m) z))
+        ]
+
+    -- previous, and what it asks
+    pub front-from : Was d o n 0 → Was d o n 7 → o ≡ n
+        → (d ≢ root m → Same (parent m d) (source m d n) 0 × Same (parent m d) (source m d n) 5)
+        → (previous m d n ≢ 0 → next m' d (previous m d n) ≡ o) → Pieces m d n → Front m' d o
+    front-from starts before is lent prior p = (
+      (λ e.
+          let (a, b) = p .first (sym before ∙ e) in
+          (starts ∙ a ∙ sym (at-source 0 _ _ (ap firstByte size) (λ z. lent z .0)), at-source 5 _ _ refl (λ z. lent z .1) ∙ b ∙ sym is)),
+      (λ e.
+          let e' : previous m d n ≢ 0 = λ z. e (before ∙ z) in
+          ap (λ (x : ℕ). next m' d x) before ∙ prior e'),
+    )
+
+    -- next, and what it asks
+    pub back-from : Was d o n 1 → Was d o n 2 → Was d o n 8
+        → (d ≢ root m → Same (parent m d) (source m d n) 1)
+        → (next m d n ≢ 0 → (previous m' d (next m d n) ≡ o) × Same d (next m d n) 0 × Same d (next m d n) 2 × Same d (next m d n) 6) → Pieces m d n → Back m' d o
+    back-from ends right behind lent later p = (
+      (λ e. ends ∙ p .last (sym behind ∙ e) ∙ sym (at-source 1 _ _ (ap (λ (w : ℕ). 4 * w) size) lent)),
+      (λ e.
+          let e' : next m d n ≢ 0 = λ z. e (behind ∙ z) in
+          let x = p .more e' in
+          let (f, a, b, c) = later e' in
+          record {
+            back = ap (λ (y : ℕ). previous m' d y) behind ∙ f;
+            adjoins = ap (λ (y : ℕ). start m' d y) behind ∙ a ∙ x .adjoins ∙ sym ends;
+            sameSource = ap (λ (y : ℕ). source m' d y) behind ∙ c ∙ x .sameSource ∙ sym sources;
+            sameRights = ap (λ (y : ℕ). rights m' d y) behind ∙ b ∙ x .sameRights ∙ sym right;
+          }),
+    )

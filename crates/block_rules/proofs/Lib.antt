@@ -1,0 +1,17 @@
+pub mod Writes
+pub mod Frame
+pub mod Slots
+pub mod Keep
+pub mod Ground
+pub mod Grown
+pub mod Framed
+pub mod Rows
+pub mod Kept
+pub mod Child
+pub mod Formatted
+pub mod Taken
+pub mod Settle
+pub mod Wiped
+pub mod steps
+pub mod Lengths
+pub mod Step

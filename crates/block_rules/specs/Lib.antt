@@ -1,0 +1,7 @@
+pub mod Refusal
+pub mod Row
+pub mod Call
+pub mod Conditions
+pub mod Refusals
+pub mod Effects
+pub mod Calls

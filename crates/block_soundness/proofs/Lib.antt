@@ -1,0 +1,11 @@
+pub mod Ranges
+pub mod Agree
+pub mod Whole
+pub mod Blocks
+pub mod Once
+pub mod Levels
+pub mod Records
+pub mod Below
+pub mod Listing
+pub mod Sums
+pub mod Counted

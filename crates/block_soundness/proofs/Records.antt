@@ -1,0 +1,222 @@
+-- The kernel's records, descriptors and structures: in sound memory they share no word with one another, nor with the header and the table, nor with a
+-- block in hand. Assumes nothing.
+use mathlib.Core.Path.{_≡_, refl, sym, ap, ap₂, _∙_, subst}
+use mathlib.Core.List.{List}
+use mathlib.Core.Logic.{_≢_}
+use mathlib.Core.Bool.{Bool, cond}
+use Prim.Native.Nat.{ℕ, _+_, _*_, _≤_, _<_}
+use native.Mathlib.Omega.{arith}
+use native.Mathlib.Decide.{ℕ-discrete}
+use lib.Dec.{eqb}
+use lib.ListN.{length}
+use borrow.Author.Tests.{eq-eqb, ne-eqb}
+use Rattle.block_memory.specs.Geometry.{descriptorWords, structureWords}
+use Rattle.block_memory.specs.Words.{word}
+use Rattle.block_memory.specs.Partition.{root, Partition, parent, number, structure, end, used, child, link, place, named, holder}
+use Rattle.block_memory.specs.Bytes.{Live, HasByte, Keeps}
+use Rattle.block_memory.specs.Sound.{Sound}
+use Rattle.block_soundness.proofs.Ranges.{permitted?}
+use Rattle.block_soundness.proofs.Blocks.{block, number-some}
+use Rattle.block_soundness.proofs.Once.{once, above-first}
+
+-- the descriptor of t, and structure k of t
+pub data Record : Type 0 where
+  desc : ℕ → Record
+  struct : ℕ → ℕ → Record
+
+abbrev pub words : Record → ℕ
+words (desc t) = descriptorWords
+words (struct t k) = structureWords
+
+module _ (m : List ℕ) where
+  abbrev pub base : Record → ℕ
+  base (desc t) = t
+  base (struct t k) = structure m t k
+
+  abbrev pub Valid : Record → Type 0
+  Valid (desc t) = Partition m t
+  Valid (struct t k) = Partition m t × (structure m t k ≢ 0)
+
+  pub record Layout : Type 0 where
+    pub inside : (r : Record) → Valid r → base r + words r ≤ length m
+    pub low : (r : Record) → Valid r → root m ≤ base r
+    pub distinct : (r q : Record) (i j : ℕ) → Valid r → Valid q → i < words r → j < words q → base r + i ≡ base q + j → r ≡ q
+
+  -- the record that stands in block n of h
+  unfoldable pub standing : ℕ → ℕ → Record
+  standing h n = cond (eqb (used m h n) 3) (desc (place m h n)) (struct (named m h (child m h n)) (link m h n))
+
+  -- r stands in block n of h
+  pub record InBlock (h n : ℕ) (r : Record) : Type 0 where
+    pub alive : Live m h n
+    pub notHand : used m h n ≢ 1
+    pub notLent : used m h n ≢ 2
+    pub there : place m h n ≡ base r
+    pub room : 4 * (base r + words r) ≤ end m h n
+    pub is : standing h n ≡ r
+
+  pub data Home (r : Record) : Type 0 where
+    first : r ≡ desc (root m) → Home r
+    second : r ≡ struct (root m) 1 → Home r
+    held : (h n : ℕ) → InBlock h n r → Home r
+
+module _ (m : List ℕ) (s : Sound m) where
+  pub named-own : (d c : ℕ) → c ≡ 0 → named m d c ≡ d
+  named-own d c e = ap (λ (t : Bool). cond t d (place m d c)) (eq-eqb c 0 e)
+
+  pub named-child : (d c : ℕ) → c ≢ 0 → named m d c ≡ place m d c
+  named-child d c h = ap (λ (t : Bool). cond t d (place m d c)) (ne-eqb c 0 h)
+
+  standing-desc : (h n : ℕ) → used m h n ≡ 3 → standing m h n ≡ desc (place m h n)
+  unfolding standing
+  standing-desc h n e = ap (λ (b : Bool). cond b (desc (place m h n)) (struct (named m h (child m h n)) (link m h n))) (eq-eqb (used m h n) 3 e)
+
+  pub standing-struct : (h n : ℕ) → used m h n ≡ 4 → standing m h n ≡ struct (named m h (child m h n)) (link m h n)
+  unfolding standing
+  standing-struct h n e =
+      ap (λ (b : Bool). cond b (desc (place m h n)) (struct (named m h (child m h n)) (link m h n))) (ne-eqb (used m h n) 3 (λ z. omega (arith, z, e)))
+
+  pub desc-in : (t : ℕ) → Partition m t → t ≢ root m → InBlock m (parent m t) (number m t) (desc t)
+  desc-in t p h =
+      let o = s .descriptors t p .ofOther h in
+      let l : Live m (parent m t) (number m t) = record { partition = o .parentListed; block = λ z. omega (arith, z, o .stands) } in
+      let u = block m s l .uses .use3 (o .stands) in
+      record {
+        alive = l;
+        notHand = λ z. omega (arith, z, o .stands);
+        notLent = λ z. omega (arith, z, o .stands);
+        there = o .there;
+        room = omega (arith, u .room, o .there);
+        is = standing-desc (parent m t) (number m t) (o .stands) ∙ ap desc (o .there);
+      }
+
+  -- structure k of t stands in block n of h
+  pub struct-in : (t k h n : ℕ) → Live m h n → used m h n ≡ 4 → link m h n ≡ k → named m h (child m h n) ≡ t → InBlock m h n (struct t k)
+  struct-in t k h n l e i w =
+      let u = block m s l .uses .use4 e in
+      let at : structure m t k ≡ place m h n = sym (ap₂ (λ (x y : ℕ). structure m x y) w i) ∙ u .there in
+      record {
+        alive = l;
+        notHand = λ z. omega (arith, z, e);
+        notLent = λ z. omega (arith, z, e);
+        there = sym at;
+        room = omega (arith, u .room, at);
+        is = standing-struct h n e ∙ ap₂ (λ (x y : ℕ). struct x y) w i;
+      }
+
+  desc-home : (t : ℕ) → Partition m t → Home m (desc t)
+  desc-home t p = elim (ℕ-discrete t (root m)) [ yes e ↦ first (ap desc e) | no h ↦ held (parent m t) (number m t) (desc-in t p h) ]
+
+  -- the block that structure k of t stands in, but for the root's first
+  module _ (t k : ℕ) (p : Partition m t) (z : structure m t k ≢ 0) (g : ¬ ((t ≡ root m) × (k ≡ 1))) where
+    abbrev Held : ℕ → Type 0
+    Held h = (used m h (word m (structure m t k)) ≡ 4) × InBlock m h (word m (structure m t k)) (struct t k)
+
+    in-own : word m (structure m t k + 1) ≡ 1 → Held t
+    in-own e =
+        let o = s .structures t p .others k z g .inOwn e in
+        (o .use4, struct-in t k t (word m (structure m t k)) (record { partition = p; block = λ w. omega (arith, w, o .use4) }) (o .use4) (o .linked) (named-own t _ (o .whose)))
+
+    in-parent : word m (structure m t k + 1) ≢ 1 → Held (parent m t)
+    in-parent e =
+        let x = s .structures t p .others k z g in
+        let o = x .inParent e in
+        let d = s .descriptors t p .ofOther (λ r. e (x .ofRoot r)) in
+        let l : Live m (parent m t) (number m t) = record { partition = d .parentListed; block = λ w. omega (arith, w, d .stands) } in
+        let w : named m (parent m t) (child m (parent m t) (word m (structure m t k))) ≡ t =
+        ap (λ (c : ℕ). named m (parent m t) c) (o .whose) ∙ named-child (parent m t) (number m t) (λ x. omega (arith, x, number-some m s l)) ∙ d .there in (
+          o .use4,
+          struct-in t k (parent m t) (word m (structure m t k)) (record { partition = d .parentListed; block = λ x. omega (arith, x, o .use4) }) (o .use4) (o .linked) w,
+        )
+
+    pub struct-held : Held (holder m t (structure m t k))
+    struct-held = elim (ℕ-discrete (word m (structure m t k + 1)) 1) [
+      | yes e ↦ subst Held (sym (ap (λ (b : Bool). cond b t (parent m t)) (eq-eqb _ _ e))) (in-own e)
+      | no e ↦ subst Held (sym (ap (λ (b : Bool). cond b t (parent m t)) (ne-eqb _ _ e))) (in-parent e)
+    ]
+
+  struct-home : (t k : ℕ) → Partition m t → structure m t k ≢ 0 → Home m (struct t k)
+  struct-home t k p z = go (ℕ-discrete t (root m)) (ℕ-discrete k 1)
+    where
+      go : Dec (t ≡ root m) → Dec (k ≡ 1) → Home m (struct t k)
+      go (yes e) (yes f) = second (ap₂ (λ (x y : ℕ). struct x y) e f)
+      go (yes e) (no f) = held _ _ (struct-held t k p z (λ (a, b). f b) .1)
+      go (no e) f = held _ _ (struct-held t k p z (λ (a, b). e a) .1)
+
+  pub home : (r : Record) → Valid m r → Home m r
+  home (desc t) v = desc-home t v
+  home (struct t k) v = struct-home t k (v .0) (v .1)
+
+  -- its words are bytes of that block
+  pub in-bytes : {h n : ℕ} {r : Record} → InBlock m h n r → (i : ℕ) → i < words r → Keeps m h n (4 * (base m r + i))
+  in-bytes {h} {n} {r} b i j = record { has = record { live = b .alive; from = omega (arith, b .there); upTo = omega (arith, b .room) }; notLent = b .notLent }
+
+  root-first : structure m (root m) 1 ≡ root m + descriptorWords
+  root-first = s .structures (root m) (s .table .rootListed) .ofRoot refl .at
+
+  -- the kernel's own part lies below
+  own-low : (r q : Record) → r ≡ q → base m q + words q ≤ root m + descriptorWords + structureWords → base m r + words r ≤ root m + descriptorWords + structureWords
+  own-low r q e h = subst (λ (x : Record). base m x + words x ≤ root m + descriptorWords + structureWords) (sym e) h
+
+  held-high : {h n : ℕ} {r : Record} → InBlock m h n r → root m + descriptorWords + structureWords ≤ base m r
+  held-high {h} {n} {r} b = omega (arith, above-first m s (b .alive), b .there)
+
+  pub low : (r : Record) → Valid m r → root m ≤ base m r
+  low r v = go (home r v)
+    where
+      go : Home m r → root m ≤ base m r
+      go (first e) = subst (λ (x : Record). root m ≤ base m x) (sym e) (omega arith)
+      go (second e) = subst (λ (x : Record). root m ≤ base m x) (sym e) (omega (arith, root-first))
+      go (held h n b) = omega (arith, held-high b)
+
+  pub inside : (r : Record) → Valid m r → base m r + words r ≤ length m
+  inside r v = go (home r v)
+    where
+      large : root m + descriptorWords + structureWords ≤ length m
+      large = let p = permitted? (length m) .0 (s .header .permits) in omega (arith, p .whole, p .least)
+
+      go : Home m r → base m r + words r ≤ length m
+      go (first e) = omega (arith, large, own-low r (desc (root m)) e (omega arith))
+      go (second e) = omega (arith, large, own-low r (struct (root m) 1) e (omega (arith, root-first)))
+      go (held h n b) = omega (arith, b .room, block m s (b .alive) .form .inside)
+
+  distinct : (r q : Record) (i j : ℕ) → Valid m r → Valid m q → i < words r → j < words q → base m r + i ≡ base m q + j → r ≡ q
+  distinct r q i j v w a b e = go (home r v) (home q w)
+    where
+      apart : (x y : Record) → r ≡ x → q ≡ y → base m x + words x ≤ base m y → r ≡ q
+      apart x y f g h =
+          let u : base m r + words r ≤ base m q = subst (λ (z : Record). base m z + words z ≤ base m q) (sym f) (subst (λ (z : Record). base m x + words x ≤ base m z) (sym g) h) in
+          absurd (omega arith)
+
+      apart' : (x y : Record) → r ≡ x → q ≡ y → base m y + words y ≤ base m x → r ≡ q
+      apart' x y f g h =
+          let u : base m q + words q ≤ base m r = subst (λ (z : Record). base m z + words z ≤ base m r) (sym g) (subst (λ (z : Record). base m y + words y ≤ base m z) (sym f) h) in
+          absurd (omega arith)
+
+      go : Home m r → Home m q → r ≡ q
+      go (first f) (first g) = f ∙ sym g
+      go (first f) (second g) = apart (desc (root m)) (struct (root m) 1) f g (omega (arith, root-first))
+      go (first f) (held h n c) = absurd (omega (arith, own-low r (desc (root m)) f (omega arith), held-high c))
+      go (second f) (first g) = apart' (struct (root m) 1) (desc (root m)) f g (omega (arith, root-first))
+      go (second f) (second g) = f ∙ sym g
+      go (second f) (held h n c) = absurd (omega (arith, own-low r (struct (root m) 1) f (omega (arith, root-first)), held-high c))
+      go (held h n c) (first g) = absurd (omega (arith, own-low q (desc (root m)) g (omega arith), held-high c))
+      go (held h n c) (second g) = absurd (omega (arith, own-low q (struct (root m) 1) g (omega (arith, root-first)), held-high c))
+      go (held h n c) (held k o d) =
+          let (x, y) = once m s h k n o (4 * (base m r + i)) (in-bytes c i a) (subst (λ (z : ℕ). Keeps m k o (4 * z)) (sym e) (in-bytes d j b)) in
+          sym (c .is) ∙ ap₂ (λ (u t : ℕ). standing m u t) x y ∙ d .is
+
+  pub layout : Layout m
+  layout = record { inside = inside; low = low; distinct = distinct }
+
+  -- no record has a word in a block in hand
+  pub not-in-hand : (r : Record) → Valid m r → (i : ℕ) → i < words r → (d n : ℕ) → HasByte m d n (4 * (base m r + i)) → used m d n ≢ 1
+  not-in-hand r v i a d n b z = go (home r v)
+    where
+      hand : Keeps m d n (4 * (base m r + i))
+      hand = record { has = b; notLent = λ w. omega (arith, w, z) }
+
+      go : Home m r → ⊥
+      go (first e) = omega (arith, above-first m s (b .live), b .from, own-low r (desc (root m)) e (omega arith))
+      go (second e) = omega (arith, above-first m s (b .live), b .from, own-low r (struct (root m) 1) e (omega (arith, root-first)))
+      go (held h o c) = let (x, y) = once m s d h n o (4 * (base m r + i)) hand (in-bytes c i a) in c .notHand (sym (ap₂ (λ (u t : ℕ). used m u t) x y) ∙ z)
