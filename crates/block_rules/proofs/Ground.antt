@@ -182,6 +182,39 @@ module _ (m m' : List ℕ) (s : Sound m) (size : length m' ≡ length m) where
       };
     }
 
+    -- a block of whose own words only use, child and link change, as where it is taken or given back
+    pub turned : Words8 d → ((g : ℕ) → g < 9 → ¬ ((3 ≤ g) × (g < 6)) → Same m m' d n g) → used m' d n ≢ 0 → used m' d n ≤ 4 → Use m' d n → SourceStays d n
+        → Beside → Slot m' d n
+    turned w same some known uses lent by =
+        let x = pieces-on w same lent by in
+        let o = block m s l .form in
+        let e0 = same 0 (omega arith) (λ (y, z). omega arith) in
+        let e1 = same 1 (omega arith) (λ (y, z). omega arith) in
+        let e2 = same 2 (omega arith) (λ (y, z). omega arith) in
+        record {
+          free = λ z. absurd (some z);
+          taken = λ z. record {
+            form = record {
+              long = omega (arith, e0, e1, o .long);
+              inside = omega (arith, e1, o .inside, size);
+              fewRights = omega (arith, e2, o .fewRights);
+              known = known;
+            };
+            uses = uses;
+            sources = x .0;
+            pieces = x .1;
+          };
+        }
+
+    pub given-back : Words8 d → ((g : ℕ) → g < 9 → ¬ ((3 ≤ g) × (g < 6)) → Same m m' d n g) → used m' d n ≡ 1 → child m' d n ≡ 0 → link m' d n ≡ 0
+        → SourceStays d n → Beside → Slot m' d n
+    given-back w same hand noChild noLink lent by = turned w same (λ z. omega (arith, z, hand)) (omega (arith, hand)) (record {
+      use1 = λ e. record { noChild = noChild; noLink = noLink };
+      use2 = λ e. absurd (omega (arith, e, hand));
+      use3 = λ e. absurd (omega (arith, e, hand));
+      use4 = λ e. absurd (omega (arith, e, hand));
+    }) lent by
+
   pub free-on : (d n : ℕ) → Partition m d → Has m d n → used m d n ≡ 0 → ((g : ℕ) → g < 9 → Same m m' d n g) → Slot m' d n
   free-on d n p h e same = record {
     free = λ z g i. same g i ∙ s .slots d n p h .free e g i;

@@ -15,6 +15,15 @@ use Rattle.block_memory.specs.Words.{word}
 use Rattle.block_memory.specs.Partition.{root, Partition, parent, number, structure, field, start, end, rights, used, child, link, source, previous, next, place, named}
 use Rattle.block_memory.specs.Sound.{Form, Use, Source, Next, Pieces, sourceStart, sourceEnd, sourceLink}
 
+-- block b of d, or another
+pub this-or : (P : ℕ → ℕ → Type 0) (d b u o : ℕ) → P d b → (¬ ((u ≡ d) × (o ≡ b)) → P u o) → P u o
+this-or P d b u o this other = go (ℕ-discrete u d) (ℕ-discrete o b)
+  where
+    go : Dec (u ≡ d) → Dec (o ≡ b) → P u o
+    go (yes x) (yes y) = subst (λ (e : ℕ). P e o) (sym x) (subst (P d) (sym y) this)
+    go (yes x) (no y) = other (λ (e, f). y f)
+    go (no x) y = other (λ (e, f). x e)
+
 -- the two halves of sentence 9
 abbrev pub Front : List ℕ → ℕ → ℕ → Type 0
 Front m d n = (previous m d n ≡ 0 → (start m d n ≡ sourceStart m d n) × (sourceLink m d n ≡ n)) × (previous m d n ≢ 0 → next m d (previous m d n) ≡ n)

@@ -25,8 +25,8 @@ use Rattle.block_rules.specs.Effects.{collectFrom}
 use Rattle.block_rules.proofs.Writes as W
 use Rattle.block_rules.proofs.Frame.{Placed}
 use Rattle.block_rules.proofs.Slots.{inStructure}
-use Rattle.block_rules.proofs.Keep.{Same}
-use Rattle.block_rules.proofs.Ground.{root-now, header-on, Words8, descriptor-on, structure-on, root-structure-on, Named, pieces-on, slot-on, free-on}
+use Rattle.block_rules.proofs.Keep.{this-or, Same}
+use Rattle.block_rules.proofs.Ground.{root-now, header-on, Words8, descriptor-on, structure-on, root-structure-on, Named, slot-on, given-back, free-on}
 use Rattle.block_rules.proofs.Grown.{structure-of}
 use Rattle.block_rules.proofs.Framed.{placed}
 use Rattle.block_rules.proofs.Kept.{first-piece, entries-kept}
@@ -246,34 +246,11 @@ module _ (m : List ℕ) (s : Sound m) (t : ℕ) (pt : Partition m t) (some : emp
 
   h-slot : Slot m₃ h n
   h-slot =
-      let o = block m s live-h in
-      let e : (g : ℕ) → g < 9 → ¬ ((3 ≤ g) × (g < 6)) → Same m m₃ h n g = λ g i a. same h n g live-h i a in
-      let e0 = e 0 (omega arith) (λ (y, z). omega arith) in
-      let e1 = e 1 (omega arith) (λ (y, z). omega arith) in
-      let e2 = e 2 (omega arith) (λ (y, z). omega arith) in
-      let x = pieces-on m m₃ s size live-h (words8 h ph) e (lent h n live-h) (record { prior = prior h n live-h; later = later h n live-h }) in
-      record {
-        free = λ z. absurd (omega (arith, z, changed 0 (omega arith)));
-        taken = λ z. record {
-          form = record {
-            long = omega (arith, e0, e1, o .form .long);
-            inside = omega (arith, e1, o .form .inside, size);
-            fewRights = omega (arith, e2, o .form .fewRights);
-            known = omega (arith, changed 0 (omega arith));
-          };
-          uses = record {
-            use1 = λ f. record { noChild = changed 1 (omega arith); noLink = changed 2 (omega arith) };
-            use2 = λ f. absurd (omega (arith, f, changed 0 (omega arith)));
-            use3 = λ f. absurd (omega (arith, f, changed 0 (omega arith)));
-            use4 = λ f. absurd (omega (arith, f, changed 0 (omega arith)));
-          };
-          sources = x .0;
-          pieces = x .1;
-        };
-      }
+      given-back m m₃ s size live-h (words8 h ph) (λ g i a. same h n g live-h i a) (changed 0 (omega arith)) (changed 1 (omega arith)) (changed 2 (omega arith))
+      (lent h n live-h) (record { prior = prior h n live-h; later = later h n live-h })
 
   slots : (u o : ℕ) → Partition m u → Has m₃ u o → Slot m₃ u o
-  slots u o v i = go (ℕ-discrete u h) (ℕ-discrete o n)
+  slots u o v i = this-or (Slot m₃) h n u o h-slot other
     where
       away : ¬ ((u ≡ t) × (o / 8 ≡ k))
       away (x, y) = i (ap₂ (λ (a b : ℕ). structure m₃ a b) x y ∙ structure-gone)
@@ -289,11 +266,6 @@ module _ (m : List ℕ) (s : Sound m) (t : ℕ) (pt : Partition m t) (some : emp
             | no z ↦ let l : Live m u o = record { partition = v; block = z } in
                 slot-on m m₃ s size l (words8 u v) e (names u o l a) (lent u o l) (record { prior = prior u o l; later = later u o l })
           ]
-
-      go : Dec (u ≡ h) → Dec (o ≡ n) → Slot m₃ u o
-      go (yes x) (yes y) = subst (λ (e : ℕ). Slot m₃ e o) (sym x) (subst (λ (e : ℕ). Slot m₃ h e) (sym y) h-slot)
-      go (yes x) (no y) = other (λ (e, f). y f)
-      go (no x) y = other (λ (e, f). x e)
 
   -- ---- structures
 

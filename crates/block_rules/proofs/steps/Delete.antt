@@ -28,7 +28,7 @@ use Rattle.block_rules.specs.Effects.{ofChild, goesWith, wipePartition, 
 use Rattle.block_rules.proofs.Frame.{Placed}
 use Rattle.block_rules.proofs.Slots.{inStructure}
 use Rattle.block_rules.proofs.Keep.{Same}
-use Rattle.block_rules.proofs.Ground.{root-now, header-on, Words8, descriptor-on, structure-on, root-structure-on, Named, pieces-on, slot-on, free-on}
+use Rattle.block_rules.proofs.Ground.{root-now, header-on, Words8, descriptor-on, structure-on, root-structure-on, Named, slot-on, given-back, free-on}
 use Rattle.block_rules.proofs.Grown.{structure-of}
 use Rattle.block_rules.proofs.Framed.{placed}
 use Rattle.block_rules.proofs.Kept.{lent-child, entries-kept}
@@ -330,32 +330,9 @@ module _ (m : List ℕ) (s : Sound m) (d c : ℕ) (p : Partition m d) (stands : 
   back-slot : (n : ℕ) → OfChild n → Slot m₂ d n
   back-slot n a =
       let b : Live m d n = record { partition = p; block = a .0 } in
-      let o = block m s b in
-      let e : (g : ℕ) → g < 9 → ¬ ((3 ≤ g) × (g < 6)) → Same m m₂ d n g = λ g i x. same d n g p d-stays i x in
-      let e0 = e 0 (omega arith) (λ (y, z). omega arith) in
-      let e1 = e 1 (omega arith) (λ (y, z). omega arith) in
-      let e2 = e 2 (omega arith) (λ (y, z). omega arith) in
-      let c0 = changed n a 0 (omega arith) in
-      let x = pieces-on m m₂ s size b (words8 d p d-stays) e (lent d n b d-stays) (record { prior = prior d n b d-stays; later = later d n b d-stays }) in
-      record {
-        free = λ z. absurd (omega (arith, z, c0));
-        taken = λ z. record {
-          form = record {
-            long = omega (arith, e0, e1, o .form .long);
-            inside = omega (arith, e1, o .form .inside, size);
-            fewRights = omega (arith, e2, o .form .fewRights);
-            known = omega (arith, c0);
-          };
-          uses = record {
-            use1 = λ f. record { noChild = changed n a 1 (omega arith); noLink = changed n a 2 (omega arith) };
-            use2 = λ f. absurd (omega (arith, f, c0));
-            use3 = λ f. absurd (omega (arith, f, c0));
-            use4 = λ f. absurd (omega (arith, f, c0));
-          };
-          sources = x .0;
-          pieces = x .1;
-        };
-      }
+      given-back m m₂ s size b (words8 d p d-stays) (λ g i x. same d n g p d-stays i x)
+      (changed n a 0 (omega arith)) (changed n a 1 (omega arith)) (changed n a 2 (omega arith))
+      (lent d n b d-stays) (record { prior = prior d n b d-stays; later = later d n b d-stays })
 
   decide : (n : ℕ) → Dec (OfChild n)
   decide n = go (ℕ-discrete (used m d n) 0) (ℕ-discrete n c) (ℕ-discrete (child m d n) c)
