@@ -21,6 +21,10 @@ unfoldable effects : ℕ
 unfolding disable createIn wipeStructures wipePartition deleteChild prepareFor collectFrom addTo removeFrom cutAt mergeTwo enableIn effectOf
 effects = 0
 
+unfoldable answers : ℕ
+unfolding first reply pass refusalsOf refusals collected enabledAt tells isBlock resultOf toldOf later afterLater runLater answersLater toldLater
+answers = 0
+
 unfoldable pub computing : ℕ
-unfolding memory effects entryOf format first reply pass refusalsOf refusals collected enabledAt tells isBlock resultOf toldOf later afterLater runLater answersLater toldLater
+unfolding memory effects answers entryOf format
 computing = 0

@@ -41,7 +41,8 @@ module _ (m : List ℕ) (good : permitted (length m) ≡ true) where
   unfolding run answers allTold told
   claim cs =
       let w : run m (formatAll ∷ cs) ≡ run (format (length m)) cs = ap (λ (x : List ℕ). run x cs) formatted in
-      let s : Sound (run m (formatAll ∷ cs)) = subst Sound (sym w) (run-sound cs (format (length m)) (format-sound (length m) (permitted? (length m) .0 good))) in
+      let fresh : Sound (format (length m)) = format-sound (length m) (permitted? (length m) .0 good) in
+      let s : Sound (run m (formatAll ∷ cs)) = subst Sound (sym w) (run-sound cs (format (length m)) fresh) in
       record {
         words = w;
         answered = ap₂ (λ (a : Answer) (x : List ℕ). a ∷ answers x cs) said formatted;

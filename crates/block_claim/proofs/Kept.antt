@@ -2,16 +2,16 @@
 use mathlib.Core.Path.{_≡_, sym, ap, ap₂, _∙_}
 use mathlib.Core.List.{List}
 use mathlib.Core.Logic.{_≢_, _⊎_, inl, inr}
-use Prim.Native.Nat.{ℕ}
+use Prim.Native.Nat.{ℕ, _≤_, _<_}
 use native.Mathlib.Omega.{arith}
 use lib.ListN.{length}
 use Rattle.block_memory.specs.Geometry.{flatBytes}
-use Rattle.block_memory.specs.Partition.{root, Partition, used}
+use Rattle.block_memory.specs.Partition.{root, Partition, parent, entry, start, end, used, child, source}
 use Rattle.block_memory.specs.Bytes.{Live, HasByte}
 use Rattle.block_memory.specs.Sound.{Sound}
 use Rattle.block_soundness.proofs.Ranges.{entry-range}
 use Rattle.block_soundness.proofs.Blocks.{block}
-use Rattle.block_soundness.proofs.Once.{up, once, above-first, one-block, siblings}
+use Rattle.block_soundness.proofs.Once.{up, same-child, once, above-first, one-block, siblings}
 use Rattle.block_soundness.proofs.Counted.{counted}
 use Rattle.block_claim.specs.Kept.{KernelByte, InParent, Kept}
 
@@ -35,14 +35,25 @@ module _ (m : List ℕ) (s : Sound m) where
       let u = up m s l h in
       record { lent = u .lent; toThis = u .toThis; low = u .low; high = u .high; noMore = block m s l .sources .ofOther h .noMore }
 
+  one-child : (d e n o : ℕ) → Live m d n → Live m e o → d ≢ root m → e ≢ root m → parent m d ≡ parent m e → source m d n ≡ source m e o → d ≡ e
+  one-child d e n o l k h g p q =
+      same-child m s d e (l .partition) (k .partition) h g p (sym (up m s l h .toThis) ∙ ap₂ (λ (x y : ℕ). child m x y) p q ∙ up m s k g .toThis)
+
+  shut : (d e x : ℕ) → Partition m d → entry m d e ≢ 0 → start m d (entry m d e) ≤ x → x < end m d (entry m d e) → KernelByte m x → ⊥
+  shut d e x p z a b k =
+      let u = s .entries d p .inHand e z in
+      closed d (entry m d e) x (record { live = record { partition = p; block = λ y. omega (arith, y, u) }; from = a; upTo = b }) u k
+
   pub kept-from : (w : ℕ) → length m ≡ w → Kept m w
   kept-from w e = record {
     size = e;
     sound = s;
     oneBlock = λ x a b. one-block m s x (omega arith) (omega arith);
     vertical = vertical;
+    oneChild = one-child;
     siblings = siblings m s;
     closed = closed;
     enabled = λ d k p z. let (a, b) = entry-range m d k z in (s .entries d p .inHand k z, a, omega arith);
+    shut = shut;
     counted = counted m s ∙ ap flatBytes e;
   }

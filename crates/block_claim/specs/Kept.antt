@@ -7,7 +7,7 @@ use lib.Bits.{bitAnd}
 use lib.ListN.{length}
 use Rattle.block_memory.specs.Geometry.{mostEnabled, firstByte, flatBytes}
 use Rattle.block_memory.specs.Partition.{root, Partition, parent, number, entry, start, end, rights, used, child, source}
-use Rattle.block_memory.specs.Bytes.{HasByte, Keeps}
+use Rattle.block_memory.specs.Bytes.{Live, HasByte, Keeps}
 use Rattle.block_memory.specs.Sound.{Sound}
 use Rattle.block_soundness.specs.Counts.{inHandCount, kernelCount}
 
@@ -30,13 +30,18 @@ module _ (m : List ℕ) where
     pub sound : Sound m
     -- "each byte of the starting block is in exactly one block with use 1, 3 or 4, over the pools of all partitions"
     pub oneBlock : (x : ℕ) → firstByte w ≤ x → x < 4 * w → (d : ℕ) × (n : ℕ) × Keeps m d n x × ((e o : ℕ) → Keeps m e o x → (e ≡ d) × (o ≡ n))
-    -- "each block of a partition but the root lies in a block that its parent lends to it and has no right that this one has not"
+    -- "each block of a partition but the root lies in a block that its parent lends to it and has no right that this one has not": "rights never grow"
+    -- (document 02, L10)
     pub vertical : (d n : ℕ) → Partition m d → d ≢ root m → used m d n ≢ 0 → InParent d n
+    -- "a block goes to one child at most" (L10): two children of one parent have nothing from the same block of it
+    pub oneChild : (d e n o : ℕ) → Live m d n → Live m e o → d ≢ root m → e ≢ root m → parent m d ≡ parent m e → source m d n ≡ source m e o → d ≡ e
     -- "two children of one parent share no byte"
     pub siblings : (d e n o x : ℕ) → d ≢ root m → e ≢ root m → parent m d ≡ parent m e → d ≢ e → HasByte m d n x → HasByte m e o x → ⊥
     -- "no kernel byte is in a block in hand"
     pub closed : (d n x : ℕ) → HasByte m d n x → used m d n ≡ 1 → KernelByte x → ⊥
-    -- "what is enabled is in hand, and at most eight blocks for a partition"
+    -- "what is enabled is in hand, and at most eight blocks for a partition": so "a block that serves as a kernel structure is never enabled" (L10)
     pub enabled : (d e : ℕ) → Partition m d → entry m d e ≢ 0 → (used m d (entry m d e) ≡ 1) × (1 ≤ e) × (e ≤ mostEnabled)
+    -- so no kernel byte is in an enabled block
+    pub shut : (d e x : ℕ) → Partition m d → entry m d e ≢ 0 → start m d (entry m d e) ≤ x → x < end m d (entry m d e) → KernelByte x → ⊥
     -- "in hand + kernel = F"
     pub counted : inHandCount m + kernelCount m ≡ flatBytes w

@@ -8,9 +8,11 @@ use Prim.Native.Nat.{ℕ, _+_, _*_, _/_, _≤_, _<_}
 use lib.Bits.{bitAnd}
 use lib.Dec.{eqb}
 use lib.ListN.{length}
-use Rattle.block_memory.specs.Geometry.{permitted, headerWords, tableWords, descriptorWords, structureWords, slotWords, firstByte, leastBytes, allRights, firstNumber}
+use Rattle.block_memory.specs.Geometry.{permitted, headerWords, tableWords, descriptorWords, structureWords, slotWords, firstByte, leastBytes}
+use Rattle.block_memory.specs.Geometry.{allRights, firstNumber}
 use Rattle.block_memory.specs.Words.{word}
-use Rattle.block_memory.specs.Partition.{root, current, Partition, parent, number, level, entry, structure, Has, field, start, end, rights, used, child, link, source, previous, next, place, named}
+use Rattle.block_memory.specs.Partition.{root, current, Partition, parent, number, level, entry, structure, Has, field, start, end, rights, used, child}
+use Rattle.block_memory.specs.Partition.{link, source, previous, next, place, named}
 
 module _ (m : List ℕ) where
   -- ---- 1. "The length is permitted. The header is as above, and its word 3 is a partition."

@@ -8,9 +8,12 @@ use Rattle.walk.specs.Finite.{keep}
 use Rattle.block_memory.specs.Geometry.{tableIndex, descriptorWords, structureWords, slotWords}
 use Rattle.common.specs.Words.{overwrite}
 use Rattle.block_memory.specs.Words.{word, put, wipe, over}
-use Rattle.block_memory.specs.Partition.{numbers, structureNumbers, entryNumbers, current, partitions, parent, level, entry, structure, putSlot, start, end, rights, used, child, link, source, next, place, named, holder, blockAt, freeNumber, freeStructure, emptyStructure, entryOf}
+use Rattle.block_memory.specs.Partition.{numbers, structureNumbers, entryNumbers, current, partitions, parent, level, entry, structure, putSlot, start, end}
+use Rattle.block_memory.specs.Partition.{rights, used, child, link, source, next, place, named, holder, blockAt, freeNumber, freeStructure, emptyStructure}
+use Rattle.block_memory.specs.Partition.{entryOf}
 use Rattle.block_memory.specs.Format.{format}
-use Rattle.block_rules.specs.Call.{Service, Call, formatAll, serve, create, delete, prepare, collect, add, remove, cut, merge, enable, readEnabled, find, enter, leave}
+use Rattle.block_rules.specs.Call.{Service, Call, formatAll, serve, create, delete, prepare, collect, add, remove, cut, merge, enable, readEnabled}
+use Rattle.block_rules.specs.Call.{find, enter, leave}
 
 -- "Disable n: every entry that is n becomes 0"
 unfoldable pub disable : List ℕ → ℕ → ℕ → List ℕ

@@ -7,8 +7,10 @@ use Rattle.block_memory.specs.Geometry.{descriptorWords, structureWords}
 use Rattle.block_memory.specs.Partition.{current, place, named}
 use Rattle.block_rules.specs.Refusal.{DAMAGED, CHILD, BLOCK, RIGHTS, PIECE, APART, UNMERGED, SLOT, STRUCTURE, ENABLED, EMPTY, ROOT, LENGTH}
 use Rattle.block_rules.specs.Row.{Check, first}
-use Rattle.block_rules.specs.Call.{Service, Call, formatAll, serve, create, delete, prepare, collect, add, remove, cut, merge, enable, readEnabled, find, enter, leave}
-use Rattle.block_rules.specs.Conditions.{damaged, noChild, noPartition, notInHand, notLentTo, firstPieceNotInHand, addsRight, badCut, apart, unmerged, noSlot, noRoom, allStructures, allEntries, noneEmpty, atRoot, wrongLength}
+use Rattle.block_rules.specs.Call.{Service, Call, formatAll, serve, create, delete, prepare, collect, add, remove, cut, merge, enable, readEnabled}
+use Rattle.block_rules.specs.Call.{find, enter, leave}
+use Rattle.block_rules.specs.Conditions.{damaged, noChild, noPartition, notInHand, notLentTo, firstPieceNotInHand, addsRight, badCut, apart, unmerged}
+use Rattle.block_rules.specs.Conditions.{noSlot, noRoom, allStructures, allEntries, noneEmpty, atRoot, wrongLength}
 
 module _ (m : List ℕ) where
   -- of a service for the caller d, on sound memory

@@ -6,9 +6,11 @@ use lib.Bits.{bitAnd}
 use lib.Dec.{leb, ltb, eqb}
 use lib.ListN.{length}
 use Rattle.walk.specs.Finite.{from, all}
-use Rattle.block_memory.specs.Geometry.{permitted, headerWords, tableWords, descriptorWords, structureWords, slotWords, firstByte, leastBytes, allRights, firstNumber}
+use Rattle.block_memory.specs.Geometry.{permitted, headerWords, tableWords, descriptorWords, structureWords, slotWords, firstByte, leastBytes, allRights}
+use Rattle.block_memory.specs.Geometry.{firstNumber}
 use Rattle.block_memory.specs.Words.{word}
-use Rattle.block_memory.specs.Partition.{numbers, structureNumbers, entryNumbers, root, current, isPartition, parent, number, level, entry, structure, field, start, end, rights, used, child, link, source, previous, next, place, named}
+use Rattle.block_memory.specs.Partition.{numbers, structureNumbers, entryNumbers, root, current, isPartition, parent, number, level, entry, structure, field}
+use Rattle.block_memory.specs.Partition.{start, end, rights, used, child, link, source, previous, next, place, named}
 use Rattle.block_memory.specs.Sound.{sourceStart, sourceEnd, sourceLink}
 
 module _ (m : List ℕ) where
@@ -32,8 +34,8 @@ module _ (m : List ℕ) where
   -- ---- 4
 
   unfoldable pub entriesTest : ℕ → Bool
-  entriesTest d =
-      all (λ e. eqb (entry m d e) 0 || (eqb (used m d (entry m d e)) 1 && all (λ f. not (eqb (entry m d e) (entry m d f)) || eqb e f) entryNumbers)) entryNumbers
+  entriesTest d = all (λ e. eqb (entry m d e) 0 || (eqb (used m d (entry m d e)) 1 && all (λ f. not (eqb (entry m d e) (entry m d f)) || eqb e f) entryNumbers))
+      entryNumbers
 
   -- ---- 5
 
