@@ -89,7 +89,7 @@ LIBRARY = {
 LIBRARY['length'] = lambda xs: len(xs)
 CONSTANTS = {'true': 'True', 'false': 'False', '[]': '[]', 'zero': '0', 'none': "('none',)"}
 # long recursions over a list or up to a number, done at once; check_shortcuts holds them to the text
-SHORTCUTS = {('memory', 'Words', 'overwrite'): overwrite, ('memory', 'Words', 'tabulate'): tabulate, ('walk', 'Finite', 'from'): lambda n, i: range(i, i + n),
+SHORTCUTS = {('common', 'Words', 'overwrite'): overwrite, ('memory', 'Words', 'tabulate'): tabulate, ('walk', 'Finite', 'from'): lambda n, i: range(i, i + n),
              ('walk', 'Finite', 'all'): all_of, ('walk', 'Finite', 'any'): any_of, ('walk', 'Finite', 'keep'): keep, ('walk', 'Finite', 'image'): image,
              ('walk', 'Lists', 'flat'): flat}
 
@@ -121,14 +121,15 @@ class Module:
         for depth, text, raw in chunks:
             while sections and depth <= sections[-1][0]:
                 sections.pop()
-            m = re.match(r'use Rattle·(\w+?)(?:·specs\.specs|\.specs)\.(\w+)(?:\.\{(.*)\}| as (\w+))?$', text)
+            m = re.match(r'(?:unfoldable )?(?:pub )?use Rattle·(\w+?)(?:·specs\.specs|\.specs)\.(\w+)(?:\.\{(.*)\}| as (\w+))?$', text)
             if m:
-                for n in (m.group(3) or '').split(', '):
-                    self.imports[n.strip('_')] = (m.group(1), m.group(2))
-                if m.group(4):
-                    self.aliases[m.group(4)] = (m.group(1), m.group(2))
+                if m.group(3):
+                    for n in m.group(3).split(', '):
+                        self.imports[n.strip('_')] = (m.group(1), m.group(2))
+                else:
+                    self.aliases[m.group(4) or m.group(2)] = (m.group(1), m.group(2))
                 continue
-            if text.startswith(('use ', 'infix', 'unfolding', 'pub record ', 'record ', 'ruleset ', 'pub mod')):
+            if text.startswith(('use ', 'pub use ', 'infix', 'unfolding', 'pub record ', 'record ', 'ruleset ', 'pub mod')):
                 continue
             m = re.match(r'module _ (.*) where$', text)
             if m:
@@ -161,6 +162,13 @@ class Program:
         if (crate, name) not in self.modules:
             self.modules[crate, name] = Module(crate, name)
         return self.modules[crate, name]
+
+    def home(self, crate, name, symbol):
+        """The module that declares a name: one that a `pub use` line passes on stands in another than the one that it is brought in from."""
+        module = self.module(crate, name)
+        if symbol in module.defs or symbol in module.constructors or symbol not in module.imports:
+            return crate, name
+        return self.home(*module.imports[symbol], symbol)
 
     def arity(self, crate, name, symbol):
         d = self.module(crate, name).defs[symbol]
@@ -233,7 +241,10 @@ class Translation:
     def is_constructor(self, n):
         if n in self.module.constructors:
             return True
-        return n in self.module.imports and n in self.program.module(*self.module.imports[n]).constructors
+        return n in self.module.imports and n in self.program.module(*self.imported(n)).constructors
+
+    def imported(self, n):
+        return self.program.home(*self.module.imports[n], n)
 
     def match(self, p, at, tests, bound):
         if isinstance(p, list):
@@ -323,7 +334,7 @@ class Translation:
             self.next()
             t, x, y = self.atom(bound), self.atom(bound), self.atom(bound)
             return '(%s if %s else %s)' % (x, t, y)
-        if head == 'pass' and self.module.imports.get(head) == ('rules', 'Row'):
+        if head == 'pass' and head in self.module.imports and self.imported(head) == ('common', 'Row'):
             # what a call that is refused would have changed is not computed
             self.next()
             n, x, y = self.atom(bound), self.atom(bound), self.atom(bound)
@@ -387,7 +398,7 @@ class Translation:
             inside = [ps for s, ps in m.defs[t]['sections'] if (s, ps) in self.d['sections']]
             return self.value(m.crate, m.name, t, [self.py(p) for ps in inside for p in ps])
         if t in m.imports:
-            return self.value(*m.imports[t], t, [])
+            return self.value(*self.imported(t), t, [])
         if t in LIBRARY:
             self.globals['lib_' + t] = LIBRARY[t]
             self.arities['lib_' + t] = LIBRARY[t].__code__.co_argcount
@@ -427,7 +438,7 @@ def release_all(program, b, n, i, m, d, c):
 
 def check_shortcuts(program):
     """The shortcuts give what the text gives, on lists short enough for the text and at narrow widths. What the text leaves for later is again a shortcut."""
-    text = program.get('memory', 'Words', 'overwrite', text_only=True)
+    text = program.get('common', 'Words', 'overwrite', text_only=True)
     for n in range(6):
         for i in range(7):
             for k in range(7):
@@ -436,7 +447,7 @@ def check_shortcuts(program):
     text = program.get('memory', 'Words', 'tabulate', text_only=True)
     for n in range(9):
         assert ap(text, 3, n, lambda x: 7 * x) == tabulate(3, n, lambda x: 7 * x)
-    text = program.get('rules', 'Row', 'pass', text_only=True)
+    text = program.get('common', 'Row', 'pass', text_only=True)
     assert [text(n, 'changed', 'same') for n in range(20)] == ['changed'] + ['same'] * 19
     lists = [list(xs) for n in range(5) for xs in itertools.product(range(3), repeat=n)]
     for name, f in ('all', lambda x: x > 0), ('any', lambda x: x > 1), ('keep', lambda x: x != 1), ('image', lambda x: 2 * x + 1):
