@@ -5,6 +5,7 @@ use mathlib.Core.Logic.{_≢_}
 use Prim.Native.Nat.{ℕ, _+_, _/_, _≤_, _<_}
 use native.Mathlib.Omega.{arith}
 use native.Mathlib.Nat.{add-zero}
+use native.Mathlib.Decide.{ℕ-discrete}
 use lib.ListN.{length}
 use Rattle.block_memory.specs.Geometry.{permitted, firstByte, wordFrom}
 use Rattle.block_memory.specs.Words.{word}
@@ -220,3 +221,14 @@ module _ (m m' : List ℕ) (s : Sound m) (size : length m' ≡ length m) where
     free = λ z g i. same g i ∙ s .slots d n p h .free e g i;
     taken = λ z. absurd (z (same 3 (omega arith) ∙ e));
   }
+
+  -- a slot whose nine words stay, free or a block
+  pub still-on : (d n : ℕ) → Partition m d → Has m d n → Words8 d → ((g : ℕ) → g < 9 → Same m m' d n g)
+      → ((l : Live m d n) → Named d n × SourceStays d n × Beside l) → Slot m' d n
+  still-on d n p h w same by = elim (ℕ-discrete (used m d n) 0) [
+    | yes z ↦ free-on d n p h z same
+    | no z ↦
+        let l : Live m d n = record { partition = p; block = z } in
+        let (k, lent, beside) = by l in
+        slot-on l w same k lent beside
+  ]

@@ -11,9 +11,9 @@ use Rattle.block_memory.specs.Sound.{Sound, Entries, Slot, Use, Source}
 use Rattle.block_soundness.proofs.Blocks.{block, live, number-some}
 use Rattle.block_soundness.proofs.Once.{up}
 use Rattle.block_rules.proofs.Frame.{Frame}
-use Rattle.block_rules.proofs.Slots.{SameFields}
+use Rattle.block_rules.proofs.Slots.{SameFields, FewerEntries}
 use Rattle.block_rules.proofs.Keep.{Same, Was, Front, Back}
-use Rattle.block_rules.proofs.Ground.{SourceStays, use-on, source-on, front-on, back-on, slot-on, free-on}
+use Rattle.block_rules.proofs.Ground.{SourceStays, use-on, source-on, front-on, back-on, Beside, slot-on, free-on, still-on}
 use Rattle.block_rules.proofs.Grown.{KernelStays, words8, names}
 use Rattle.block_rules.proofs.Framed.{grown, framed}
 
@@ -92,3 +92,19 @@ module _ (m m' : List ℕ) (s : Sound m) (f : Frame m m') (same : SameFields m m
 
   pub fewer-entries : (d : ℕ) → Partition m d → ((e : ℕ) → entry m' d e ≢ 0 → entry m' d e ≡ entry m d e) → Entries m' d
   fewer-entries d p h = entries-kept m m' s d p h (λ n u e q. same d n 3 p (omega arith) ∙ u)
+
+-- a slot whose nine words stay, free or a block
+module _ (m m' : List ℕ) (s : Sound m) (f : Frame m m') (kernel : KernelStays m m') where
+  pub still : (d n : ℕ) → Partition m d → Has m d n → ((g : ℕ) → g < 9 → Same m m' d n g)
+      → ((l : Live m d n) → FirstStays m m' s f kernel d n × SourceStays m m' s (f .size) d n × Beside m m' s (f .size) l) → Slot m' d n
+  still d n p h same by = still-on m m' s (f .size) d n p h (words8 m m' s (grown m m' s f) d p) same (λ l.
+      let (first, lent, beside) = by l in
+      (names m m' s (grown m m' s f) kernel d n l first, lent, beside))
+
+-- entries where block b of d is no longer enabled, and every other block in hand stays in hand
+pub entries-off : (m m' : List ℕ) (s : Sound m) (d b : ℕ) → Live m d b → FewerEntries m m' → ((e : ℕ) → entry m' d e ≢ 0 → entry m' d e ≢ b)
+    → ((u o : ℕ) → Live m u o → used m u o ≡ 1 → ¬ ((u ≡ d) × (o ≡ b)) → used m' u o ≡ 1) → (u : ℕ) → Partition m u → Entries m' u
+entries-off m m' s d b l fewer off hand u v = entries-kept m m' s u v (λ e z. fewer u e v z) (λ o x e w.
+    hand u o (record { partition = v; block = λ z. omega (arith, z, x) }) x (λ (y, z).
+    let f : entry m' d e ≡ b = ap (λ (a : ℕ). entry m' a e) (sym y) ∙ sym w ∙ z in
+    off e (λ g. omega (arith, g, f, number-some m s l)) f))

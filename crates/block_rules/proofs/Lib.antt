@@ -9,8 +9,12 @@ pub mod Rows
 pub mod Kept
 pub mod Child
 pub mod Formatted
+pub mod Uses
 pub mod Taken
-pub mod Settle
+pub mod Freed
+pub mod Turned
+pub mod Laid
+pub mod Entered
 pub mod Wiped
 pub mod steps
 pub mod Lengths

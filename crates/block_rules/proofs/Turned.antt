@@ -1,0 +1,85 @@
+-- One block in hand is taken, block b of d: no other block that was there changes, and of its own words only use, child and link. Then what blocks name
+-- stays. Assumes nothing.
+use mathlib.Core.Path.{_≡_, refl, sym, ap₂, _∙_}
+use mathlib.Core.List.{List}
+use mathlib.Core.Logic.{_≢_}
+use Prim.Native.Nat.{ℕ, _≤_, _<_}
+use native.Mathlib.Omega.{arith}
+use native.Mathlib.Decide.{ℕ-discrete}
+use Rattle.block_memory.specs.Partition.{root, Partition, Has, used, child, link, previous, place}
+use Rattle.block_memory.specs.Bytes.{Live}
+use Rattle.block_memory.specs.Sound.{Sound, Slot, Use}
+use Rattle.block_soundness.proofs.Blocks.{before, after}
+use Rattle.block_soundness.proofs.Once.{up}
+use Rattle.block_rules.proofs.Keep.{this-or, Same}
+use Rattle.block_rules.proofs.Ground.{SourceStays, Beside, turned, still-on}
+use Rattle.block_rules.proofs.Grown.{KernelStays, Grown, words8, names}
+use Rattle.block_rules.proofs.Kept.{first-piece}
+
+pub record Turned (m now : List ℕ) (d b : ℕ) : Type 0 where
+  pub hand : used m d b ≡ 1
+  pub some : used now d b ≢ 0
+  pub known : used now d b ≤ 4
+  pub others : (u o g : ℕ) → Live m u o → g < 9 → ¬ ((u ≡ d) × (o ≡ b) × (3 ≤ g) × (g < 6)) → Same m now u o g
+
+module _ (m now : List ℕ) (s : Sound m) (f : Grown m now) (d b : ℕ) (p : Partition m d) (t : Turned m now d b) where
+  -- a word other than use, child and link
+  pub same : (u o g : ℕ) → Live m u o → g < 9 → ¬ ((3 ≤ g) × (g < 6)) → Same m now u o g
+  same u o g l i h = t .others u o g l i (λ (x, y, z, k). h (z, k))
+
+  -- a block that isn't in hand
+  unless-hand : (u o g : ℕ) → Live m u o → g < 9 → used m u o ≢ 1 → Same m now u o g
+  unless-hand u o g l i h = t .others u o g l i (λ (x, y, z, k). h (ap₂ (λ (e c : ℕ). used m e c) x y ∙ t .hand))
+
+  pub kernel : KernelStays m now
+  kernel u o g l h i = unless-hand u o g l (omega arith) (λ z. omega (arith, z))
+
+  first : (u o : ℕ) → Live m u o → used m u o ≡ 2 → Same m now (place m u (child m u o)) (link m u o) 6 × Same m now (place m u (child m u o)) (link m u o) 7
+  first u o l e =
+      let x = first-piece m s u o l e in
+      (same _ _ 6 x (omega arith) (λ (y, z). omega arith), same _ _ 7 x (omega arith) (λ (y, z). omega arith))
+
+  lent : (u o : ℕ) → Live m u o → SourceStays m now s (f .size) u o
+  lent u o l e g i = let x = up m s l e in unless-hand _ _ g (x .alive) (omega arith) (λ z. omega (arith, z, x .lent))
+
+  beside : (u o : ℕ) (l : Live m u o) → Beside m now s (f .size) l
+  beside u o l = record {
+    prior = λ z. same _ _ 8 (before m s l z .alive) (omega arith) (λ (x, y). omega arith);
+    later = λ z. let k : (g : ℕ) → g < 9 → ¬ ((3 ≤ g) × (g < 6)) → Same m now u _ g = λ g. same _ _ g (after m s l z) in (
+      k 0 (omega arith) (λ (x, y). omega arith),
+      k 2 (omega arith) (λ (x, y). omega arith),
+      k 6 (omega arith) (λ (x, y). omega arith),
+      k 7 (omega arith) (λ (x, y). omega arith),
+    );
+  }
+
+  -- ---- the slots
+
+  this : Use now d b → Slot now d b
+  this uses =
+      let l : Live m d b = record { partition = p; block = λ z. omega (arith, z, t .hand) } in
+      turned m now s (f .size) l (words8 m now s f d p) (λ g. same d b g l) (t .some) (t .known) uses (lent d b l) (beside d b l)
+
+  -- a slot that was there, and whose words stay if it was free
+  pub slot : Use now d b → (u o : ℕ) → Partition m u → Has m u o → (used m u o ≡ 0 → (g : ℕ) → g < 9 → Same m now u o g) → Slot now u o
+  slot uses u o v h free = this-or (Slot now) d b u o (this uses) (λ n.
+      still-on m now s (f .size) u o v h (words8 m now s f u v) (words n) (λ l.
+      (names m now s f kernel u o l (first u o l), lent u o l, beside u o l)))
+    where
+      words : ¬ ((u ≡ d) × (o ≡ b)) → (g : ℕ) → g < 9 → Same m now u o g
+      words n g i = elim (ℕ-discrete (used m u o) 0) [
+        | yes z ↦ free z g i
+        | no z ↦ t .others u o g (record { partition = v; block = z }) i (λ (x, y, c, k). n (x, y))
+      ]
+
+  -- ---- the root's block 8
+
+  root-block : Live m (root m) 8
+  root-block = record { partition = s .table .rootListed; block = s .structures (root m) (s .table .rootListed) .ofRoot refl .block }
+
+  pub root-there : used now (root m) 8 ≢ 0
+  root-there = this-or (λ u o. used now u o ≢ 0) d b (root m) 8 (t .some)
+      (λ n z. root-block .block (sym (t .others (root m) 8 3 root-block (omega arith) (λ (x, y, c, k). n (x, y))) ∙ z))
+
+  pub root-first : previous now (root m) 8 ≡ 0
+  root-first = same (root m) 8 7 root-block (omega arith) (λ (x, y). omega arith) ∙ s .structures (root m) (s .table .rootListed) .ofRoot refl .first
