@@ -21,6 +21,7 @@ use Rattle.common.proofs.Overwrite.{length-overwrite, overwrite-before, overwri
 use Rattle.walk.specs.Walk.{zeros-at}
 use Rattle.block_memory.proofs.Lookups.{entry-at, structure-at, field-at}
 use Rattle.block_soundness.proofs.Ranges.{Permitted, permitted?, entry-range, structure-range}
+use Rattle.block_rules.proofs.Uses.{in-hand}
 
 module _ (w : ℕ) (per : Permitted w) where
   abbrev d : ℕ
@@ -64,7 +65,9 @@ module _ (w : ℕ) (per : Permitted w) where
 
   last : (g : ℕ) → g < 4 → word m (d + 34 + g) ≡ getD (startingBlock w) g 0
   unfolding format
-  last g h = ap (word (overwrite m₄ (d + 32 + 2) (startingBlock w))) (omega arith) ∙ overwrite-at m₄ (d + 32 + 2) (startingBlock w) g h (omega (arith, size₄, large))
+  last g h =
+      ap (word (overwrite m₄ (d + 32 + 2) (startingBlock w))) (omega arith)
+      ∙ overwrite-at m₄ (d + 32 + 2) (startingBlock w) g h (omega (arith, size₄, large))
 
   not-puts : (j : ℕ) → j ≢ 8 + d / 32 → j ≢ d + 8 → j ≢ d + 16 → word m₄ j ≡ word m₁ j
   not-puts j a b c = getD-set-other m₃ (d + 16) j (d + 32) 0 c ∙ getD-set-other m₂ (d + 8) j 8 0 b ∙ getD-set-other m₁ (8 + d / 32) j d 0 a
@@ -79,7 +82,9 @@ module _ (w : ℕ) (per : Permitted w) where
 
   in-table : word m (8 + d / 32) ≡ d
   in-table =
-      not-last (8 + d / 32) (inl (omega arith)) ∙ getD-set-other m₃ (d + 16) (8 + d / 32) (d + 32) 0 (omega arith) ∙ getD-set-other m₂ (d + 8) (8 + d / 32) 8 0 (omega arith)
+      not-last (8 + d / 32) (inl (omega arith))
+      ∙ getD-set-other m₃ (d + 16) (8 + d / 32) (d + 32) 0 (omega arith)
+      ∙ getD-set-other m₂ (d + 8) (8 + d / 32) 8 0 (omega arith)
       ∙ getD-set-same m₁ (8 + d / 32) d 0 (omega (arith, size₁, large))
 
   first-entry : word m (d + 8) ≡ 8
@@ -103,8 +108,10 @@ module _ (w : ℕ) (per : Permitted w) where
   only : (u : ℕ) → Partition m u → u ≡ d
   only u v = elim (ℕ-discrete (u / 32) (d / 32)) [
     | yes e ↦ sym (v .listed) ∙ ap (λ (j : ℕ). word m (8 + j)) e ∙ in-table
-    | no e ↦ absurd (let i : u < w = omega (arith, v .inside, size) in let z : word m (8 + u / 32) ≡ 0 =
-        elsewhere (8 + u / 32) (omega arith) (omega arith) (omega (arith, per .whole)) (omega (arith, per .whole)) (inl (omega (arith, per .whole))) in omega (arith, z, v .listed, v .some))
+    | no e ↦
+        let i : u < w = omega (arith, v .inside, size) in
+        let h : 8 + u / 32 < d = omega (arith, per .whole) in
+        absurd (omega (arith, elsewhere (8 + u / 32) (omega arith) (omega arith) (omega arith) (omega arith) (inl (omega arith)), v .listed, v .some))
   ]
 
   entry-one : entry m d 1 ≡ 8
@@ -137,7 +144,9 @@ module _ (w : ℕ) (per : Permitted w) where
   block-word g h = in-slot 8 g refl ∙ ap (word m) (omega arith) ∙ last g h
 
   block-zero : (g : ℕ) → 4 ≤ g → g < 9 → field m d 8 g ≡ 0
-  block-zero g a b = in-slot 8 g refl ∙ ap (word m) (omega arith) ∙ elsewhere (d + 34 + g) (omega arith) (omega arith) (omega arith) (omega arith) (inr (omega arith))
+  block-zero g a b =
+      in-slot 8 g refl ∙ ap (word m) (omega arith)
+      ∙ elsewhere (d + 34 + g) (omega arith) (omega arith) (omega arith) (omega arith) (inr (omega arith))
 
   free-slot : (n f : ℕ) → n / 8 ≡ 1 → n ≢ 8 → f < 9 → field m d n f ≡ 0
   free-slot n f e h g = in-slot n f e ∙ elsewhere (d + 34 + 9 * (n % 8) + f) (omega arith) (omega arith) (omega arith) (omega arith) (inr (omega arith))
@@ -157,12 +166,8 @@ module _ (w : ℕ) (per : Permitted w) where
         fewRights = omega (arith, block-word 2 (omega arith));
         known = omega (arith, block-word 3 (omega arith));
       };
-      uses = record {
-        use1 = λ e. record { noChild = block-zero 4 (omega arith) (omega arith); noLink = block-zero 5 (omega arith) (omega arith) };
-        use2 = λ e. absurd (omega (arith, e, block-word 3 (omega arith)));
-        use3 = λ e. absurd (omega (arith, e, block-word 3 (omega arith)));
-        use4 = λ e. absurd (omega (arith, e, block-word 3 (omega arith)));
-      };
+      uses = in-hand m d 8 (block-word 3 (omega arith))
+          (record { noChild = block-zero 4 (omega arith) (omega arith); noLink = block-zero 5 (omega arith) (omega arith) });
       sources = record {
         ofRoot = λ e. record {
           noSource = ap (λ (x : ℕ). field m x 8 6) rt ∙ block-zero 6 (omega arith) (omega arith);

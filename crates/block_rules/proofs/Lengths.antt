@@ -12,9 +12,11 @@ use Rattle.block_memory.specs.Words.{put, wipe, over}
 use Rattle.block_memory.specs.Partition.{numbers, structureNumbers, entryNumbers, current, partitions, entry, structure, slot, putSlot, named, entryOf}
 use Rattle.block_memory.specs.Format.{format}
 use Rattle.common.proofs.Overwrite.{length-overwrite}
-use Rattle.block_rules.specs.Call.{Service, Call, formatAll, serve, create, delete, prepare, collect, add, remove, cut, merge, enable, readEnabled, find, enter, leave}
+use Rattle.block_rules.specs.Call.{Service, Call, formatAll, serve, create, delete, prepare, collect, add, remove, cut, merge, enable, readEnabled, find}
+use Rattle.block_rules.specs.Call.{enter, leave}
 use Rattle.block_rules.specs.Refusals.{refusal}
-use Rattle.block_rules.specs.Effects.{disable, giveBack, ofChild, goesWith, createIn, wipeStructures, wipePartition, deleteChild, prepareFor, collectFrom, addTo, removeFrom, cutAt, mergeTwo, enableIn, effectOf, effect}
+use Rattle.block_rules.specs.Effects.{disable, giveBack, ofChild, goesWith, wipeStructures, wipePartition, createIn, deleteChild, prepareFor, collectFrom}
+use Rattle.block_rules.specs.Effects.{addTo, removeFrom, cutAt, mergeTwo, enableIn, effectOf, effect}
 use Rattle.block_rules.specs.Calls.{after, run}
 
 length-slot : (m : List ℕ) (d o f : ℕ) (ws : List ℕ) → length (putSlot m d o f ws) ≡ length m
@@ -40,8 +42,11 @@ length-disable m d n = length-over (λ w e. cond (eqb (entry w d e) n) (put w (d
 
 length-structures : (m : List ℕ) (t : ℕ) → length (wipeStructures m t) ≡ length m
 unfolding wipeStructures
-length-structures m t = length-over (λ w k. cond (eqb (structure m t k) 0) w (wipe w (structure m t k) 74)) (λ w k. go w k (eqb (structure m t k) 0)) m structureNumbers
+length-structures m t = length-over one (λ w k. go w k (eqb (structure m t k) 0)) m structureNumbers
   where
+    one : List ℕ → ℕ → List ℕ
+    one w k = cond (eqb (structure m t k) 0) w (wipe w (structure m t k) 74)
+
     go : (w : List ℕ) (k : ℕ) (b : Bool) → length (cond b w (wipe w (structure m t k) 74)) ≡ length w
     go w k true = refl
     go w k false = length-overwrite w (structure m t k) (replicate 74 0)
@@ -63,8 +68,9 @@ length-effect : (m : List ℕ) (d : ℕ) (s : Service) → length (effectOf m d 
 unfolding effectOf createIn deleteChild prepareFor collectFrom addTo removeFrom cutAt mergeTwo
 length-effect m d (create b) = simp (length-set, length-overwrite, length-slot, length-disable)
 length-effect m d (delete c) =
-    length-over (λ w n. giveBack w d n) (λ w n. length-slot w d n 3 (1 ∷ 0 ∷ 0 ∷ [])) (over wipePartition m (keep (goesWith m d c) (partitions m))) (keep (ofChild m d c) numbers)
-    ∙ length-over wipePartition length-wiped m (keep (goesWith m d c) (partitions m))
+    let ts = keep (goesWith m d c) (partitions m) in
+    length-over (λ w n. giveBack w d n) (λ w n. length-slot w d n 3 (1 ∷ 0 ∷ 0 ∷ [])) (over wipePartition m ts) (keep (ofChild m d c) numbers)
+    ∙ length-over wipePartition length-wiped m ts
 length-effect m d (prepare p b) = simp (length-set, length-overwrite, length-slot, length-disable)
 length-effect m d (collect p) = simp (length-set, length-overwrite, length-slot)
 length-effect m d (add c b r) = simp (length-slot, length-disable)

@@ -8,8 +8,8 @@ pub mod Framed
 pub mod Rows
 pub mod Kept
 pub mod Child
-pub mod Formatted
 pub mod Uses
+pub mod Formatted
 pub mod Taken
 pub mod Freed
 pub mod Turned
