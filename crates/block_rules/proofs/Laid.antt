@@ -13,13 +13,11 @@ use Rattle.common.proofs.Overwrite.{length-overwrite, overwrite-before, overwri
 use Rattle.block_memory.specs.Geometry.{tableIndex}
 use Rattle.block_memory.specs.Words.{word, put}
 use Rattle.block_memory.specs.Partition.{root, Partition, entry, structure, Has, slot, field, end, used, place}
-use Rattle.block_memory.specs.Bytes.{Live}
 use Rattle.block_memory.specs.Sound.{Sound}
 use Rattle.block_memory.proofs.Lookups.{entry-same, structure-same, field-same}
 use Rattle.block_soundness.proofs.Ranges.{table-has}
-use Rattle.block_soundness.proofs.Blocks.{block, field-has}
-use Rattle.block_soundness.proofs.Once.{above-first}
-use Rattle.block_soundness.proofs.Records.{Record, desc, struct, words, base, Valid, not-in-hand}
+use Rattle.block_soundness.proofs.Blocks.{field-has}
+use Rattle.block_soundness.proofs.Records.{Record, desc, struct, words, base, Valid}
 use Rattle.block_rules.specs.Effects.{takeAs}
 use Rattle.block_rules.proofs.Frame.{Placed, structure-stays}
 use Rattle.block_rules.proofs.Slots.{FewerEntries, Trail, trail, inStructure}
@@ -27,22 +25,7 @@ use Rattle.block_rules.proofs.Keep.{Same}
 use Rattle.block_rules.proofs.Grown.{Grown}
 use Rattle.block_rules.proofs.Framed.{placed}
 use Rattle.block_rules.proofs.Taken.{Taken, take}
-
--- ---- room for n words in block b of d, which is in hand
-
-module _ (m : List ℕ) (s : Sound m) (d b n : ℕ) (p : Partition m d) (hand : used m d b ≡ 1) (room : 4 * (place m d b + n) ≤ end m d b) where
-  live-b : Live m d b
-  live-b = record { partition = p; block = λ z. omega (arith, z, hand) }
-
-  pub above-own : root m + 106 ≤ place m d b
-  above-own = omega (arith, above-first m s live-b)
-
-  pub in-memory : place m d b + n ≤ length m
-  in-memory = omega (arith, room, block m s live-b .form .inside)
-
-  -- no word of a record is there
-  pub clear-of : (r : Record) → Valid m r → (i : ℕ) → i < words r → place m d b ≤ base m r + i → base m r + i < place m d b + n → ⊥
-  clear-of r v i h a c = not-in-hand m s r v i h d b (record { live = live-b; from = omega arith; upTo = omega (arith, room) }) hand
+use Rattle.block_rules.proofs.Room.{above-own, in-memory, clear-of}
 
 -- ---- index j, at which nothing is said: no word of the header, of a partition in the table, or of a record but for a structure that isn't there
 
@@ -58,15 +41,18 @@ module _ (m : List ℕ) where
     pub table : (u : ℕ) → Partition m u → tableIndex u ≢ j
     pub spare : (r : Record) → Valid m r → (i : ℕ) → i < words r → base m r + i ≡ j → Spare r i
 
--- ---- what is so afterwards, in memory `now`
+-- ---- what is so afterwards, in memory `now`: block b of d has the words `three` from word 3 on, and ws stand in it
 
 pub record Laid (m now : List ℕ) (d b : ℕ) (three ws : List ℕ) (j : ℕ) : Type 0 where
   pub late : 8 ≤ j
+  -- the partitions: those that were there, and no other unless j is its table word
   pub grown : Grown m now
   pub back : {u : ℕ} → Partition now u → tableIndex u ≢ j → Partition m u
+  -- the words of header and table, and those that are new
   pub low : (i : ℕ) → i < root m → i ≢ j → word now i ≡ word m i
   pub index : word now j ≡ place m d b
   pub filled : (i : ℕ) → i < length ws → place m d b + i ≢ j → word now (place m d b + i) ≡ getD ws i 0
+  -- structures, slots and entries
   pub structures : (u k : ℕ) → Partition m u → (1 ≤ k → k ≤ 16 → u + (15 + k) ≢ j) → structure now u k ≡ structure m u k
   pub others : (u o g : ℕ) → Partition m u → Has m u o → g < 9 → ¬ ((u ≡ d) × (o ≡ b) × (3 ≤ g) × (g < 6)) → Same m now u o g
   pub starts : Same m now d b 0

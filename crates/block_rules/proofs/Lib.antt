@@ -13,6 +13,7 @@ pub mod Formatted
 pub mod Taken
 pub mod Freed
 pub mod Turned
+pub mod Room
 pub mod Laid
 pub mod Entered
 pub mod Wiped

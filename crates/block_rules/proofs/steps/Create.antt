@@ -20,7 +20,8 @@ use Rattle.block_rules.specs.Effects.{createIn}
 use Rattle.block_rules.proofs.Ground.{root-now}
 use Rattle.block_rules.proofs.Framed.{permitted-now}
 use Rattle.block_rules.proofs.Uses.{holds-descriptor}
-use Rattle.block_rules.proofs.Laid.{Unused, Laid, above-own, in-memory, clear-of, entered, lay}
+use Rattle.block_rules.proofs.Room.{above-own, in-memory, clear-of}
+use Rattle.block_rules.proofs.Laid.{Unused, Laid, entered, lay}
 use Rattle.block_rules.proofs.Entered.{Entered, enter}
 
 module _ (m : List ℕ) (s : Sound m) (d b : ℕ) (p : Partition m d) (hand : used m d b ≡ 1) (room : 4 * (place m d b + 32) ≤ end m d b) where

@@ -27,7 +27,8 @@ use Rattle.block_rules.proofs.Grown.{named-partition, words8}
 use Rattle.block_rules.proofs.Framed.{permitted-now}
 use Rattle.block_rules.proofs.Child.{ChildOf, child-of}
 use Rattle.block_rules.proofs.Uses.{holds-structure}
-use Rattle.block_rules.proofs.Laid.{Spare, Unused, Laid, above-own, clear-of, entered, lay}
+use Rattle.block_rules.proofs.Room.{above-own, clear-of}
+use Rattle.block_rules.proofs.Laid.{Spare, Unused, Laid, entered, lay}
 use Rattle.block_rules.proofs.Entered.{Entered, enter}
 
 module _ (m : List ℕ) (s : Sound m) (d c b : ℕ) (p : Partition m d) (stands : c ≢ 0 → used m d c ≡ 3) (hand : used m d b ≡ 1)
