@@ -1,7 +1,7 @@
 -- The table's third column: what each call that isn't refused leaves in memory. d is the caller. Assumes nothing.
 use mathlib.Core.List.{List, [], _∷_}
 use mathlib.Core.Bool.{Bool, cond, not, _&&_, _||_}
-use Prim.Native.Nat.{ℕ, _+_, _*_}
+use Prim.Native.Nat.{ℕ, _+_, _-_, _*_}
 use lib.Dec.{eqb}
 use lib.ListN.{length, replicate}
 use Rattle.walk.specs.Finite.{keep}
@@ -38,7 +38,7 @@ unfoldable pub createIn : List ℕ → ℕ → ℕ → List ℕ
 createIn m d b =
     let t = place m d b in
     let m₁ = takeAs m d b 3 0 0 in
-    let m₂ = overwrite m₁ t (d ∷ b ∷ (level m d + 1) ∷ replicate 29 0) in
+    let m₂ = overwrite m₁ t (d ∷ b ∷ (level m d + 1) ∷ replicate (descriptorWords - 3) 0) in
     put m₂ (tableIndex t) t
 
 -- ---- delete: "wipes the structures and the descriptor of the child and of each partition below it, and their table words; gives back the block that the
@@ -72,7 +72,7 @@ prepareFor m d p b =
     let k = freeStructure m t in
     let s = place m d b in
     let m₁ = takeAs m d b 4 p k in
-    let m₂ = overwrite m₁ s (b ∷ cond (eqb p 0) 1 0 ∷ replicate 72 0) in
+    let m₂ = overwrite m₁ s (b ∷ cond (eqb p 0) 1 0 ∷ replicate (structureWords - 2) 0) in
     put m₂ (t + 15 + k) s
 
 -- ---- collect: "wipes the structure of lowest k whose eight slots are free, and descriptor word 15+k; gives back its block in the pool that has it"
