@@ -1,5 +1,6 @@
 //! A second, independent kernel for comparison. It is written from the paper's rules and not proved.
 
+pub mod blocks;
 pub mod calls;
 pub mod contexts;
 pub mod cover;
