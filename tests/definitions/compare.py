@@ -7,9 +7,10 @@ a hash of every word after each call. Changed words of a memory in use: the verd
 their start can give, in both editions; the pages that asked.txt asks for and those that a deleted child leaves in returned.txt, in both; notify, dispatch and
 resume of contexts.txt, with small pages; the last virtual page of large.txt; the live flag changed in a root and in its child; and scripts for replay, good and
 bad. Prints what was compared; exits with 1 at the first difference."""
-import array, itertools, os, random, subprocess, sys, threading
+import array, itertools, os, random, subprocess, sys
 
 from antt import Program, ap, check_shortcuts
+from running import TARGET, differ, fingerprint, run
 
 HERE = os.path.dirname(os.path.abspath(__file__))
 WORDS = [64, 1024]  # of a page, by edition
@@ -17,24 +18,6 @@ NAMES = ['formatAll', 'createPartition', 'deletePartition', 'addVAddr', 'removeV
          'enter', 'leave', 'load', 'store', 'notify', 'dispatch', 'resume']
 MORNING = [20, 15, 12, 1, 256, 512, 768, 1024, 1280, 5, 256, 4096, 12, 1536, 1792, 12, 1792, 2048, 6, 256, 4096, 1536, 3, 2304, 256, 4096, 3,
            8, 2304, 12, 256, 1, 9, 256, 12, 4100, 77, 10, 11, 2308, 4, 256, 4096, 7, 256, 4096, 2, 256]
-
-
-def differ(what, ours, theirs):
-    print('DIFFERENT: %s\n  definitions: %s\n  second:      %s' % (what, ours, theirs), flush=True)
-    os._exit(1)
-
-
-def fingerprint(memory):
-    """64-bit FNV-1a over the words as little-endian bytes; a byte 0 only multiplies."""
-    h, zeros = 0xcbf29ce484222325, 0
-    for w in memory + [None]:
-        if w == 0:
-            zeros += 4
-            continue
-        h, zeros = h * pow(0x100000001b3, zeros, 2 ** 64) % 2 ** 64, 0
-        for byte in w.to_bytes(4, 'little') if w else b'':
-            h = (h ^ byte) * 0x100000001b3 % 2 ** 64
-    return '%016x' % h
 
 
 def remembered(f, most):
@@ -390,13 +373,4 @@ def main():
         print('  %-16s %s' % (name, ', '.join('%s: %d' % (a, v) for (c, a), v in sorted(total.items()) if c == name)))
 
 
-TARGET = os.environ.get('CARGO_TARGET_DIR') or os.path.join(HERE, '..', 'second', 'target')
-subprocess.run(['cargo', 'build', '--release', '--quiet', '--offline'], cwd=os.path.join(HERE, '..', 'second'), check=True)
-sys.setrecursionlimit(10 ** 6)
-threading.stack_size(1 << 29)
-done = []
-thread = threading.Thread(target=lambda: done.append(main()))
-thread.start()
-thread.join()
-# an exception ends the thread alone
-sys.exit(0 if done else 1)
+run(main)

@@ -16,7 +16,7 @@ module _ (m : List ℕ) where
   abbrev pub KernelByte : ℕ → Type 0
   KernelByte x = (x < firstByte (length m)) ⊎ ((d : ℕ) × (n : ℕ) × HasByte m d n x × ((used m d n ≡ 3) ⊎ (used m d n ≡ 4)))
 
-  -- block n of d lies in a block that d's parent lends to d, and has no right that this one has not
+  -- block n of d lies in a block that d's parent lends to d, and has no right that the lent block has not
   pub record InParent (d n : ℕ) : Type 0 where
     pub lent : used m (parent m d) (source m d n) ≡ 2
     pub toThis : child m (parent m d) (source m d n) ≡ number m d
@@ -30,7 +30,7 @@ module _ (m : List ℕ) where
     pub sound : Sound m
     -- "each byte of the starting block is in exactly one block with use 1, 3 or 4, over the pools of all partitions"
     pub oneBlock : (x : ℕ) → firstByte w ≤ x → x < 4 * w → (d : ℕ) × (n : ℕ) × Keeps m d n x × ((e o : ℕ) → Keeps m e o x → (e ≡ d) × (o ≡ n))
-    -- "each block of a partition but the root lies in a block that its parent lends to it and has no right that this one has not": "rights never grow"
+    -- "each block of a partition but the root lies in a block that its parent lends to it and has no right that the lent block has not": "rights never grow"
     -- (document 02, L10)
     pub vertical : (d n : ℕ) → Partition m d → d ≢ root m → used m d n ≢ 0 → InParent d n
     -- "a block goes to one child at most" (L10): two children of one parent have nothing from the same block of it

@@ -58,7 +58,8 @@ module _ (m : List ℕ) where
     pub once : (e f : ℕ) → entry m d e ≢ 0 → entry m d e ≡ entry m d f → e ≡ f
 
   -- ---- 5. "The root's structure 1 is at D+32, has 0 in words 0 and 1, and its block 8 is there with no previous. Any other structure k has 0 or 1 in word
-  -- 1, in the root 1; and the block of the number in its word 0, in d's own pool or the parent's, has use 4, link k, and child 0 or d's number there."
+  -- 1, in the root 1; and the block of the number in its word 0, in d's own pool or the parent's, has use 4, link k, and child 0 in the one, d's number in the
+  -- other."
 
   pub record RootStructure : Type 0 where
     pub at : structure m (root m) 1 ≡ root m + descriptorWords
@@ -142,9 +143,9 @@ module _ (m : List ℕ) where
     pub ofRoot : d ≡ root m → RootSource n
     pub ofOther : d ≢ root m → FromParent d n
 
-  -- ---- 9. "If previous is 0, the block starts where its source starts, and the source's link is this number; in the root it starts at header word 2 and its
-  -- number is 8. Else the previous block's next is this. If next is 0, the block ends where its source ends, in the root at 4W. Else the next block's previous
-  -- is this, its start is this one's end, and its source and rights are the same."
+  -- ---- 9. "If previous is 0, the block starts where its source starts, and the source's link is this number; in the root it starts at the first byte of the
+  -- starting block and its number is 8. Else the previous block's next is this. If next is 0, the block ends where its source ends, in the root at 4W. Else the
+  -- next block's previous is this, its start is this one's end, and its source and rights are the same."
 
   -- where the source of block n of d starts and ends, and the number of its first piece
   abbrev pub sourceStart : ℕ → ℕ → ℕ

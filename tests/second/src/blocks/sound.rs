@@ -181,7 +181,7 @@ impl Judged<'_> {
     // 9. The pieces of a block are chained from its start to its end.
     fn chain(&self, d: &Partition, block: &Slot) -> bool {
         let (start, end, first) = if self.is_root(d) {
-            (self.mem[2], self.geometry.end(), 8)
+            (self.geometry.first_byte, self.geometry.end(), 8)
         } else {
             let source = self.parent(d).slot(block.source);
             (source.start, source.end, source.link)
