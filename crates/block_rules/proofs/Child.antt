@@ -25,8 +25,9 @@ pub child-of : (m : List ℕ) → Sound m → (d c : ℕ) → Partition m d → 
 child-of m s d c p e =
     let l : Live m d c = record { partition = p; block = λ z. omega (arith, z, e) } in
     let h = block m s l .uses .use3 e in
-    let r : place m d c ≢ root m = λ z. omega (arith, p .some, h .parentWord, ap (parent m) z, s .descriptors (root m) (s .table .rootListed) .ofRoot refl .noParent) in
-    let w : level m (place m d c) ≡ level m d + 1 = s .descriptors (place m d c) (h .listed) .ofOther r .below ∙ ap (λ (x : ℕ). level m x + 1) (h .parentWord) in
+    let top = s .descriptors (root m) (s .table .rootListed) .ofRoot refl .noParent in
+    let r : place m d c ≢ root m = λ z. omega (arith, p .some, h .parentWord, ap (parent m) z, top) in
+    let w = s .descriptors (place m d c) (h .listed) .ofOther r .below ∙ ap (λ (x : ℕ). level m x + 1) (h .parentWord) in
     record {
       listed = h .listed;
       parentWord = h .parentWord;

@@ -16,7 +16,12 @@ pub mod Turned
 pub mod Room
 pub mod Laid
 pub mod Entered
+pub mod Leaving
+pub mod Shrunk
+pub mod Zeroed
 pub mod Wiped
+pub mod Given
 pub mod steps
 pub mod Lengths
 pub mod Step
+pub mod Promises

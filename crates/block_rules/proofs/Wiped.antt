@@ -1,169 +1,117 @@
--- Partitions wiped and blocks given back, one after another: what that leaves. Records and where they are, are those of m. Assumes nothing.
+-- Partitions wiped: which words are 0 then, and which stay. Records and where they are, are those of m. Assumes nothing.
 use mathlib.Core.Path.{_≡_, refl, sym, ap, _∙_, subst}
-use mathlib.Core.List.{List, [], _∷_}
-use mathlib.Core.Logic.{_≢_}
+use mathlib.Core.List.{List}
+use mathlib.Core.Logic.{_≢_, _⊎_, inl, inr}
 use mathlib.Core.Bool.{Bool, true, false, cond}
-use Prim.Native.Nat.{ℕ, _+_, _/_, _≤_, _<_}
+use Prim.Native.Nat.{ℕ, _+_, _-_, _/_, _≤_, _<_}
 use native.Mathlib.Omega.{arith}
-use native.Mathlib.Nat.{add-zero}
-use native.Mathlib.Decide.{ℕ-discrete}
 use lib.Dec.{eqb}
-use lib.ListN.{length, getD, replicate, length-set}
-use lib.Seq.{getD-set-same, getD-set-other}
-use borrow.Author.Tests.{eqb-false, ne-eqb}
-use Rattle.walk.specs.Lists.{count, hit-same, hit-eq, hit-other}
-use Rattle.common.specs.Words.{overwrite}
-use Rattle.block_memory.specs.Words.{word, put, wipe, over}
-use Rattle.block_memory.specs.Partition.{root, Partition, structure, structureNumbers, Has, slot, putSlot}
+use lib.ListN.{length}
+use borrow.Author.Tests.{eqb-true, eqb-false}
+use Rattle.walk.specs.Lists.{count}
+use Rattle.walk.specs.Finite.{in-from, from-once}
+use Rattle.block_memory.specs.Words.{word, wipe, over}
+use Rattle.block_memory.specs.Partition.{root, Partition, structure, structureNumbers}
 use Rattle.block_memory.proofs.Lookups.{structure-same}
-use Rattle.block_soundness.proofs.Ranges.{table-has}
-use Rattle.block_soundness.proofs.Records.{Record, desc, struct, words, base, Valid}
-use Rattle.block_rules.specs.Effects.{giveBack, wipeStructures, wipePartition}
-use Rattle.block_rules.proofs.Writes as W
+use Rattle.block_soundness.proofs.Ranges.{table-has, structure-range}
+use Rattle.block_soundness.proofs.Records.{Record, desc, struct, words, owner, base, Valid}
+use Rattle.block_rules.specs.Effects.{wipeStructures, wipePartition}
 use Rattle.block_rules.proofs.Frame.{Placed}
-use Rattle.block_rules.proofs.Slots.{inStructure}
-
--- the partition that a record is of
-abbrev pub owner : Record → ℕ
-owner (desc u) = u
-owner (struct u k) = u
-
-pub struct-is : {u j v l : ℕ} → struct u j ≡ struct v l → (u ≡ v) × (j ≡ l)
-struct-is e = (cc, cc)
-
-pub not-desc : {u j v : ℕ} → struct u j ≡ desc v → ⊥
-not-desc e = let z : _≡_ {A = ℕ} 0 1 = cc in omega arith
-
-pub not-struct : {u j v : ℕ} → desc v ≡ struct u j → ⊥
-not-struct e = let z : _≡_ {A = ℕ} 0 1 = cc in omega arith
+use Rattle.block_rules.proofs.Zeroed.{Zeroed, wipe-zeroed, put-zeroed, zeroed-then, over-zeroed}
 
 module _ (m : List ℕ) (q : Placed m) where
-  -- the words of d's descriptor say where its structures are
-  structure-in : (x : List ℕ) (d k : ℕ) → Partition m d → ((i : ℕ) → i < 32 → word x (d + i) ≡ word m (d + i)) → structure x d k ≡ structure m d k
-  structure-in x d k p h = structure-same m x d k (λ a b.
-      let e : d + 15 + k ≡ d + (15 + k) = omega arith in ap (word x) e ∙ h (15 + k) (omega arith) ∙ ap (word m) (sym e))
+  -- u's descriptor has the words of m in x
+  abbrev pub AsIn : List ℕ → ℕ → Type 0
+  AsIn x u = (i : ℕ) → i < 32 → word x (u + i) ≡ word m (u + i)
+
+  pub structure-in : (x : List ℕ) (u k : ℕ) → AsIn x u → structure x u k ≡ structure m u k
+  structure-in x u k h = structure-same m x u k (λ a b.
+      let e : u + 15 + k ≡ u + (15 + k) = omega arith in ap (word x) e ∙ h (15 + k) (omega arith) ∙ ap (word m) (sym e))
+
+  -- ---- which words are wiped with g
+
+  -- word j is in structure k of g
+  abbrev InStruct : ℕ → ℕ → ℕ → Type 0
+  InStruct g k j = (structure m g k ≢ 0) × (structure m g k ≤ j) × (j < structure m g k + 74)
+
+  -- .. is in a structure or in the descriptor of g, or its table word
+  abbrev Of : ℕ → ℕ → Type 0
+  Of g j = (((k : ℕ) × (0 < count k structureNumbers) × InStruct g k j) ⊎ ((g ≤ j) × (j < g + 32))) ⊎ ((8 + g / 32 ≤ j) × (j < 8 + g / 32 + 1))
+
+  -- every word of a record of g is; no other record has such a word, and below the records only the table has
+  is-of : (r : Record) → Valid m r → (i : ℕ) → i < words r → Of (owner r) (base m r + i)
+  is-of (desc u) v i h = inl (inr (omega arith, omega arith))
+  is-of (struct u k) v i h = let r = structure-range m u k (v .1) in inl (inl (k, in-from 16 1 k (r .0) (r .1), (v .1, omega arith, omega arith)))
+
+  module _ (g : ℕ) (p : Partition m g) where
+    not-of : (r : Record) → Valid m r → owner r ≢ g → (i : ℕ) → i < words r → ¬ (Of g (base m r + i))
+    not-of r v n i h (inl (inl (k, c, (z, a, b)))) =
+        n (ap owner (q .lay .distinct r (struct g k) i (base m r + i - structure m g k) v (p, z) h (omega arith) (omega arith)))
+    not-of r v n i h (inl (inr (a, b))) = n (ap owner (q .lay .distinct r (desc g) i (base m r + i - g) v p h (omega arith) (omega arith)))
+    not-of r v n i h (inr (a, b)) = omega (arith, q .lay .low r v, table-has m (q .permits) g p)
+
+    not-low : (j : ℕ) → j < root m → j ≢ 8 + g / 32 → ¬ (Of g j)
+    not-low j h n (inl (inl (k, c, (z, a, b)))) = omega (arith, q .lay .low (struct g k) (p, z))
+    not-low j h n (inl (inr (a, b))) = omega (arith, q .lay .low (desc g) p)
+    not-low j h n (inr (a, b)) = n (omega arith)
 
   -- ---- partitions wiped
 
-  pub record Wiped (x l : List ℕ) : Type 0 where
-    pub size : length x ≡ length m
-    pub kept : (r : Record) → Valid m r → count (owner r) l ≡ 0 → (i : ℕ) → i < words r → word x (base m r + i) ≡ word m (base m r + i)
-    pub low : (j : ℕ) → j < root m → ((g : ℕ) → 0 < count g l → j ≢ 8 + g / 32) → word x j ≡ word m j
-    pub gone : (g : ℕ) → Partition m g → 0 < count g l → word x (8 + g / 32) ≡ 0
+  -- what it takes to wipe g in x
+  record Fine (x : List ℕ) (g : ℕ) : Type 0 where
+    size : length x ≡ length m
+    listed : Partition m g
+    own : AsIn x g
 
-  -- y beside x: words of records of others than g, and low words, stay
-  record Beside (x y : List ℕ) (g : ℕ) : Type 0 where
-    size : length y ≡ length m
-    kept : (r : Record) → Valid m r → owner r ≢ g → (i : ℕ) → i < words r → word y (base m r + i) ≡ word x (base m r + i)
-    low : (j : ℕ) → j < root m → word y j ≡ word x j
-
-  one-structure : (x y : List ℕ) (g k : ℕ) → Partition m g → structure x g k ≡ structure m g k → Beside x y g
-      → Beside x (cond (eqb (structure x g k) 0) y (wipe y (structure x g k) 74)) g
-  one-structure x y g k p e b = go (eqb (structure x g k) 0) refl
+  -- structure k of g, which x names
+  one-structure : (x : List ℕ) (g : ℕ) → Fine x g → (y : List ℕ) (k : ℕ) → length y ≡ length m
+      → Zeroed y (cond (eqb (structure x g k) 0) y (wipe y (structure x g k) 74)) (InStruct g k)
+  one-structure x g f y k size = go (eqb (structure x g k) 0) refl
     where
-      go : (t : Bool) → eqb (structure x g k) 0 ≡ t → Beside x (cond t y (wipe y (structure x g k) 74)) g
-      go true z = b
-      go false z =
-          let n : structure m g k ≢ 0 = λ w. eqb-false (structure x g k) 0 z (e ∙ w) in
-          let is : wipe y (structure x g k) 74 ≡ W.written m (q .lay) (struct g k) (p, n) y (b .size) 0 (replicate 74 0) (omega arith) = ap (λ (j : ℕ). overwrite y j (replicate 74 0)) (omega (arith, e)) in
-          subst (λ (w : List ℕ). Beside x w g) (sym is) (record {
-            size = W.written-size m (q .lay) (struct g k) (p, n) y (b .size) 0 (replicate 74 0) (omega arith);
-            kept = λ r v o i h. W.other-stays m (q .lay) (struct g k) (p, n) y (b .size) 0 (replicate 74 0) (omega arith) r v i h (λ (c, a, f). o (ap owner c)) ∙ b .kept r v o i h;
-            low = λ j h. W.below-stays m (q .lay) (struct g k) (p, n) y (b .size) 0 (replicate 74 0) (omega arith) j h ∙ b .low j h;
-          })
+      is : structure x g k ≡ structure m g k
+      is = structure-in x g k (f .own)
 
-  structures-in : (x : List ℕ) (g : ℕ) → Partition m g → ((k : ℕ) → structure x g k ≡ structure m g k) → (ks y : List ℕ) → Beside x y g
-      → Beside x (over (λ w k. cond (eqb (structure x g k) 0) w (wipe w (structure x g k) 74)) y ks) g
-  unfolding over
-  structures-in x g p e [] y b = b
-  structures-in x g p e (k ∷ ks) y b = structures-in x g p e ks _ (one-structure x y g k p (e k) b)
+      go : (t : Bool) → eqb (structure x g k) 0 ≡ t → Zeroed y (cond t y (wipe y (structure x g k) 74)) (InStruct g k)
+      go true e = record { size = refl; kept = λ j n. refl; zero = λ j (z, a, b). absurd (z (sym is ∙ eqb-true _ _ e)); still = λ j z. z }
+      go false e =
+          let z : structure m g k ≢ 0 = λ w. eqb-false (structure x g k) 0 e (is ∙ w) in
+          let a = wipe-zeroed y (structure x g k) 74 (omega (arith, is, size, q .lay .inside (struct g k) (f .listed, z))) in
+          record {
+            size = a .size;
+            kept = λ j n. a .kept j (λ (b, c). n (z, omega (arith, is), omega (arith, is)));
+            zero = λ j (w, b, c). a .zero j (omega (arith, is), omega (arith, is));
+            still = a .still;
+          }
 
-  one-wiped : (x l : List ℕ) (g : ℕ) → Wiped x l → Partition m g → count g l ≡ 0 → Wiped (wipePartition x g) (g ∷ l)
-  unfolding wipePartition wipeStructures count
-  one-wiped x l g a p h =
-      let e : (k : ℕ) → structure x g k ≡ structure m g k = λ k. structure-in x g k p (λ i j. a .kept (desc g) p h i j) in
-      let b = structures-in x g p e structureNumbers x (record { size = a .size; kept = λ r v o i j. refl; low = λ j i. refl }) in
+  one-wiped : (x : List ℕ) (g : ℕ) → Fine x g → Zeroed x (wipePartition x g) (Of g)
+  unfolding wipePartition wipeStructures
+  one-wiped x g f =
       let y = wipeStructures x g in
-      let z = W.written m (q .lay) (desc g) p y (b .size) 0 (replicate 32 0) (omega arith) in
-      let zs = W.written-size m (q .lay) (desc g) p y (b .size) 0 (replicate 32 0) (omega arith) in
-      let is : put (wipe y g 32) (8 + g / 32) 0 ≡ put z (8 + g / 32) 0 = ap (λ (j : ℕ). put (overwrite y j (replicate 32 0)) (8 + g / 32) 0) (sym (add-zero g)) in
-      let t : g / 32 < length m / 32 = table-has m (q .permits) g p in
-      let low : (j : ℕ) → j < root m → j ≢ 8 + g / 32 → word (put z (8 + g / 32) 0) j ≡ word x j = λ j i n.
-      getD-set-other z (8 + g / 32) j 0 0 n ∙ W.below-stays m (q .lay) (desc g) p y (b .size) 0 (replicate 32 0) (omega arith) j i ∙ b .low j i in
-      subst (λ (w : List ℕ). Wiped w (g ∷ l)) (sym is) (record {
-        size = simp length-set zs;
-        kept = λ r v o i j.
-            let n : owner r ≢ g = λ c. omega (arith, o, hit-eq (owner r) g c) in
-            getD-set-other z (8 + g / 32) (base m r + i) 0 0 (omega (arith, q .lay .low r v))
-            ∙ W.other-stays m (q .lay) (desc g) p y (b .size) 0 (replicate 32 0) (omega arith) r v i j (λ (c, f, k). n (ap owner c))
-            ∙ b .kept r v n i j ∙ a .kept r v (omega (arith, o)) i j;
-        low = λ j i n. low j i (n g (omega (arith, hit-same g))) ∙ a .low j i (λ k c. n k (omega arith));
-        gone = λ k v c. elim (ℕ-discrete k g) [
-          | yes f ↦ ap (λ (j : ℕ). word (put z (8 + g / 32) 0) (8 + j / 32)) f ∙ getD-set-same z (8 + g / 32) 0 0 (omega (arith, zs, p .inside))
-          | no f ↦ low (8 + k / 32) (omega (arith, table-has m (q .permits) k v)) (λ j. f (sym (v .listed) ∙ ap (word m) j ∙ p .listed))
-              ∙ a .gone k v (omega (arith, hit-other k g f))
-        ];
-      })
+      let a : Zeroed x y (λ j. (k : ℕ) × (0 < count k structureNumbers) × InStruct g k j) =
+      over-zeroed (λ w k. cond (eqb (structure x g k) 0) w (wipe w (structure x g k) 74)) (InStruct g) (λ w k. length w ≡ length m)
+      (λ w k e. one-structure x g f w k e) (λ w k j n e h. one-structure x g f w k e .size ∙ e) structureNumbers x (λ k h. f .size) (λ k. from-once 16 1 k) in
+      let b = wipe-zeroed y g 32 (omega (arith, a .size, f .size, q .lay .inside (desc g) (f .listed))) in
+      zeroed-then (zeroed-then a b) (put-zeroed (wipe y g 32) (8 + g / 32) (omega (arith, b .size, a .size, f .size, f .listed .inside)))
 
-  pub all-wiped : (gs x l : List ℕ) → Wiped x l → ((g : ℕ) → 0 < count g gs → Partition m g) → ((g : ℕ) → count g l + count g gs ≤ 1)
-      → (k : List ℕ) × ((u : ℕ) → count u k ≡ count u l + count u gs) × Wiped (over wipePartition x gs) k
-  unfolding over count
-  all-wiped [] x l a p one = (l, (λ u. omega arith), a)
-  all-wiped (g ∷ gs) x l a p one =
-      let h : count g l ≡ 0 = omega (arith, one g, hit-same g) in
-      let b = one-wiped x l g a (p g (omega (arith, hit-same g))) h in
-      let (k, c, w) = all-wiped gs (wipePartition x g) (g ∷ l) b (λ u i. p u (omega arith)) (λ u. omega (arith, one u)) in
-      (k, (λ u. omega (arith, c u)), w)
+  -- x is m with the partitions of gs wiped
+  pub record Wiped (x gs : List ℕ) : Type 0 where
+    pub size : length x ≡ length m
+    pub kept : (r : Record) → Valid m r → ¬ (0 < count (owner r) gs) → (i : ℕ) → i < words r → word x (base m r + i) ≡ word m (base m r + i)
+    pub low : (j : ℕ) → j < root m → ((g : ℕ) → 0 < count g gs → j ≢ 8 + g / 32) → word x j ≡ word m j
+    pub unlisted : (g : ℕ) → 0 < count g gs → word x (8 + g / 32) ≡ 0
+    pub zero : (r : Record) → Valid m r → 0 < count (owner r) gs → (i : ℕ) → i < words r → word x (base m r + i) ≡ 0
 
-  -- ---- blocks given back
-
-  abbrev three : List ℕ
-  three = 1 ∷ 0 ∷ 0 ∷ []
-
-  module _ (d : ℕ) (pd : Partition m d) (x₀ l : List ℕ) (a : Wiped x₀ l) (d-stays : count d l ≡ 0) where
-    -- the words that are given back in block n
-    abbrev pub InBack : Record → ℕ → ℕ → Type 0
-    InBack r i n = (r ≡ struct d (n / 8)) × (inStructure n 3 ≤ i) × (i < inStructure n 3 + 3)
-
-    pub record Given (x bs : List ℕ) : Type 0 where
-      pub size : length x ≡ length m
-      pub kept : (r : Record) → Valid m r → count (owner r) l ≡ 0 → (i : ℕ) → i < words r → ((n : ℕ) → 0 < count n bs → ¬ (InBack r i n)) → word x (base m r + i) ≡ word m (base m r + i)
-      pub low : (j : ℕ) → j < root m → word x j ≡ word x₀ j
-      pub given : (n : ℕ) → 0 < count n bs → (g : ℕ) → g < 3 → word x (structure m d (n / 8) + (inStructure n 3 + g)) ≡ getD three g 0
-
-    one-given : (x bs : List ℕ) (n : ℕ) → Given x bs → Has m d n → ((o : ℕ) → 0 < count o bs → Has m d o) → Given (giveBack x d n) (n ∷ bs)
-    unfolding putSlot count
-    one-given x bs n b h hs =
-        let e : structure x d (n / 8) ≡ structure m d (n / 8) = structure-in x d (n / 8) pd (λ i j. b .kept (desc d) pd d-stays i j (λ o c (f, g, k). not-struct f)) in
-        let y = W.written m (q .lay) (struct d (n / 8)) (pd, h) x (b .size) (inStructure n 3) three (omega arith) in
-        let is : giveBack x d n ≡ y =
-        ap (λ (z : Bool). cond z x (overwrite x (slot x d n + 3) three)) (ne-eqb (structure x d (n / 8)) 0 (λ z. h (sym e ∙ z))) ∙ ap (λ (j : ℕ). overwrite x j three) (omega (arith, e)) in
-        subst (λ (w : List ℕ). Given w (n ∷ bs)) (sym is) (record {
-          size = W.written-size m (q .lay) (struct d (n / 8)) (pd, h) x (b .size) (inStructure n 3) three (omega arith);
-          kept = λ r v o i j away.
-              W.other-stays m (q .lay) (struct d (n / 8)) (pd, h) x (b .size) (inStructure n 3) three (omega arith) r v i j (away n (omega (arith, hit-same n)))
-              ∙ b .kept r v o i j (λ k c. away k (omega arith));
-          low = λ j i. W.below-stays m (q .lay) (struct d (n / 8)) (pd, h) x (b .size) (inStructure n 3) three (omega arith) j i ∙ b .low j i;
-          given = λ k c g i. elim (ℕ-discrete k n) [
-            | yes f ↦ subst (λ (u : ℕ). word y (structure m d (u / 8) + (inStructure u 3 + g)) ≡ getD three g 0) (sym f)
-                (W.at-written m (q .lay) (struct d (n / 8)) (pd, h) x (b .size) (inStructure n 3) three (omega arith) g i)
-            | no f ↦
-                let c' : 0 < count k bs = omega (arith, hit-other k n f) in
-                W.other-stays m (q .lay) (struct d (n / 8)) (pd, h) x (b .size) (inStructure n 3) three (omega arith) (struct d (k / 8)) (pd, hs k c') (inStructure k 3 + g) (omega arith)
-                (λ (u, v, w). let (o, j) = struct-is u in f (omega arith))
-                ∙ b .given k c' g i
-          ];
-        })
-
-    pub all-given : (ns x bs : List ℕ) → Given x bs → ((n : ℕ) → 0 < count n ns → Has m d n) → ((n : ℕ) → 0 < count n bs → Has m d n)
-        → (k : List ℕ) × ((n : ℕ) → count n k ≡ count n bs + count n ns) × Given (over (λ w n. giveBack w d n) x ns) k
-    unfolding over count
-    all-given [] x bs b h g = (bs, (λ n. omega arith), b)
-    all-given (n ∷ ns) x bs b h g =
-        let hn = h n (omega (arith, hit-same n)) in
-        let y = one-given x bs n b hn g in
-        let (k, c, w) = all-given ns (giveBack x d n) (n ∷ bs) y (λ o i. h o (omega arith)) (λ o i. elim (ℕ-discrete o n) [
-          | yes f ↦ subst (Has m d) (sym f) hn
-          | no f ↦ g o (omega (arith, hit-other o n f))
-        ]) in
-        (k, (λ o. omega (arith, c o)), w)
+  pub all-wiped : (gs : List ℕ) → ((g : ℕ) → 0 < count g gs → Partition m g) → ((g : ℕ) → count g gs ≤ 1) → Wiped (over wipePartition m gs) gs
+  all-wiped gs p one =
+      let a = over-zeroed wipePartition Of Fine one-wiped (λ x u v n f h. let b = one-wiped x u f in record {
+        size = b .size ∙ f .size;
+        listed = h .listed;
+        own = λ i j. b .kept (v + i) (not-of u (f .listed) (desc v) (h .listed) n i j) ∙ h .own i j;
+      }) gs m (λ u h. record { size = refl; listed = p u h; own = λ i j. refl }) one in
+      record {
+        size = a .size;
+        kept = λ r v n i h. a .kept _ (λ (u, c, o). not-of u (p u c) r v (λ e. n (subst (λ (w : ℕ). 0 < count w gs) (sym e) c)) i h o);
+        low = λ j h n. a .kept j (λ (u, c, o). not-low u (p u c) j h (n u c) o);
+        unlisted = λ g h. a .zero _ (g, h, inr (omega arith, omega arith));
+        zero = λ r v c i h. a .zero _ (owner r, c, is-of r v i h);
+      }

@@ -5,3 +5,4 @@ pub mod Conditions
 pub mod Refusals
 pub mod Effects
 pub mod Calls
+pub mod Deleted

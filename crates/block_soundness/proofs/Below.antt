@@ -6,16 +6,12 @@ use Prim.Native.Nat.{ℕ, zero, suc, _+_, _-_, _*_, _<_}
 use native.Mathlib.Omega.{arith}
 use native.Mathlib.Decide.{ℕ-discrete, decLt}
 use Rattle.block_memory.specs.Partition.{root, Partition, parent, number, level, used, child, source}
+use Rattle.block_memory.specs.Tree.{Below, self, under}
 use Rattle.block_memory.specs.Bytes.{Live, HasByte, Keeps}
 use Rattle.block_memory.specs.Sound.{Sound}
 use Rattle.block_soundness.proofs.Blocks.{block, number-some}
 use Rattle.block_soundness.proofs.Once.{other, up, up-byte, same-child, equal-level, deeper, once, above-first}
 use Rattle.block_soundness.proofs.Records.{in-bytes, desc-in}
-
--- t and the partitions below it
-pub data Below (m : List ℕ) (t : ℕ) : ℕ → Type 0 where
-  self : Below m t t
-  under : (u : ℕ) → Partition m u → u ≢ root m → Below m t (parent m u) → Below m t u
 
 -- block n of d, lent to d's child of the number c, has the byte x
 pub record LentByte (m : List ℕ) (d c n x : ℕ) : Type 0 where

@@ -21,7 +21,7 @@ use Rattle.block_soundness.specs.Counts.{size, inHandCount, descriptorBy
 use Rattle.block_soundness.proofs.Ranges.{permitted?, has-range, structure-range}
 use Rattle.block_soundness.proofs.Blocks.{block, field-has}
 use Rattle.block_soundness.proofs.Once.{above-first, once, one-block}
-use Rattle.block_soundness.proofs.Records.{struct, standing, in-bytes, desc-in, struct-held, struct-in, named-own, named-child}
+use Rattle.block_soundness.proofs.Records.{struct, struct-is, standing, in-bytes, desc-in, struct-held, struct-in, named-own, named-child}
 use Rattle.block_soundness.proofs.Listing.{listed, in-list, listed-once}
 use Rattle.block_soundness.proofs.Sums.{sum-zero, sum-in, sum-one, sum-swap, sum-ones, between, between-in, between-out, all-between}
 
@@ -205,9 +205,6 @@ module _ (m : List ℕ) (s : Sound m) where
           no-desc d p (λ z i j k. q (sym (s .descriptors d p .ofOther z .there) ∙ ap₂ (λ (y w : ℕ). place m y w) i j)),
           no-struct d p (λ k o i j. omega (arith, j, u)),
         ))
-
-    struct-is : {a b c d : ℕ} → struct a b ≡ struct c d → (a ≡ c) × (b ≡ d)
-    struct-is q = (cc, cc)
 
     in-struct-one : used m e n ≡ 4 → sumOf each (partitions m) ≡ 1
     unfolding each structOf

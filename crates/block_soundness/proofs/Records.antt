@@ -28,6 +28,23 @@ abbrev pub words : Record → ℕ
 words (desc t) = descriptorWords
 words (struct t k) = structureWords
 
+-- the partition that a record is of
+abbrev pub owner : Record → ℕ
+owner (desc t) = t
+owner (struct t k) = t
+
+pub desc-is : {t u : ℕ} → desc t ≡ desc u → t ≡ u
+desc-is e = cc
+
+pub struct-is : {t k u j : ℕ} → struct t k ≡ struct u j → (t ≡ u) × (k ≡ j)
+struct-is e = (cc, cc)
+
+pub not-desc : {t u k : ℕ} → struct u k ≡ desc t → ⊥
+not-desc e = let z : _≡_ {A = ℕ} 0 1 = cc in omega arith
+
+pub not-struct : {t u k : ℕ} → desc t ≡ struct u k → ⊥
+not-struct e = let z : _≡_ {A = ℕ} 0 1 = cc in omega arith
+
 module _ (m : List ℕ) where
   abbrev pub base : Record → ℕ
   base (desc t) = t
