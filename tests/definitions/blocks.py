@@ -90,7 +90,7 @@ def main():
                 sound += compare_verdicts(definitions, memory, lines, seed, damaged)
                 memories += damaged
     second('cover', stdin='\n'.join(files))
-    print('%d calls, every answer and way of the second program met; %d memories with changed words, %d of them sound: no difference' % (calls, memories, sound))
+    print('%d calls agree, every answer and way of the second program met; %d changed memories agree, %d of them sound' % (calls, memories, sound))
 
 
 run(main)
