@@ -9,11 +9,13 @@ use native.Mathlib.Decide.{ℕ-discrete}
 use lib.ListN.{length}
 use Rattle.block_memory.specs.Geometry.{permitted, firstByte, wordFrom}
 use Rattle.block_memory.specs.Words.{word}
-use Rattle.block_memory.specs.Partition.{root, current, Partition, parent, number, level, structure, Has, used, child, link, source, previous, next, place, named}
+use Rattle.block_memory.specs.Partition.{root, current, Partition, parent, number, level, structure, Has, used, child, link, source, previous, next}
+use Rattle.block_memory.specs.Partition.{place, named}
 use Rattle.block_memory.specs.Bytes.{Live}
 use Rattle.block_memory.specs.Sound.{Sound, Header, Descriptor, StandsIn, Structure, RootStructure, Slot, Use, Source, Pieces}
 use Rattle.block_soundness.proofs.Blocks.{block}
-use Rattle.block_rules.proofs.Keep.{Same, Was, Front, Back, pieces-of, form-kept, use-kept, source-from, front-from, back-from}
+use Rattle.block_rules.proofs.Keep.{Front, Back, pieces-of, in-hand, block-slot, Same, FirstStays, PriorStays, LaterStays, Was}
+use Rattle.block_rules.proofs.Keep.{form-kept, use-kept, source-from, front-from, back-from}
 
 module _ (m m' : List ℕ) (s : Sound m) (size : length m' ≡ length m) where
   pub root-now : root m' ≡ root m
@@ -99,8 +101,8 @@ module _ (m m' : List ℕ) (s : Sound m) (size : length m' ≡ length m) where
         (subst (λ (y : ℕ). StandsIn m' (parent m d) y (number m d) k) (sym a) (stands-on (parent m d) _ (number m d) k (par e') (o .inParent e'))));
   }
 
-  pub root-structure-on : structure m' (root m) 1 ≡ structure m (root m) 1 → word m' (root m + 32) ≡ word m (root m + 32) → word m' (root m + 32 + 1) ≡ word m (root m + 32 + 1)
-      → used m' (root m) 8 ≢ 0 → previous m' (root m) 8 ≡ 0 → RootStructure m'
+  pub root-structure-on : structure m' (root m) 1 ≡ structure m (root m) 1 → word m' (root m + 32) ≡ word m (root m + 32)
+      → word m' (root m + 32 + 1) ≡ word m (root m + 32 + 1) → used m' (root m) 8 ≢ 0 → previous m' (root m) 8 ≡ 0 → RootStructure m'
   root-structure-on at w0 w1 b8 p8 =
       let o = s .structures (root m) (s .table .rootListed) .ofRoot refl in
       record {
@@ -116,7 +118,7 @@ module _ (m m' : List ℕ) (s : Sound m) (size : length m' ≡ length m) where
   -- what a block of use 2, 3 or 4 names
   pub record Named (d n : ℕ) : Type 0 where
     pub kid : used m d (child m d n) ≡ 3 → Same m m' d (child m d n) 0 × Same m m' d (child m d n) 3
-    pub first : used m d n ≡ 2 → Same m m' (place m d (child m d n)) (link m d n) 6 × Same m m' (place m d (child m d n)) (link m d n) 7
+    pub first : FirstStays m m' d n
     pub desc : used m d n ≡ 3 → Partition m' (place m d n) × Words8 (place m d n)
     pub struct : used m d n ≡ 4
         → (structure m' (named m d (child m d n)) (link m d n) ≡ structure m (named m d (child m d n)) (link m d n))
@@ -150,38 +152,54 @@ module _ (m m' : List ℕ) (s : Sound m) (size : length m' ≡ length m) where
           (λ z. (lent z 0 (omega arith), lent z 5 (omega arith))) prior (block m s l .pieces)
 
       pub back-on : Was m m' d o n 1 → Was m m' d o n 2 → Was m m' d o n 8
-          → (next m d n ≢ 0 → (previous m' d (next m d n) ≡ o) × Same m m' d (next m d n) 0 × Same m m' d (next m d n) 2 × Same m m' d (next m d n) 6) → Back m' d o
+          → (next m d n ≢ 0 → (previous m' d (next m d n) ≡ o) × Same m m' d (next m d n) 0 × Same m m' d (next m d n) 2 × Same m m' d (next m d n) 6)
+          → Back m' d o
       back-on a b c later = back-from m m' d o n size sources (parent-on d w) a b c (λ z. lent z 1 (omega arith)) later (block m s l .pieces)
 
     -- the pieces before and after
     pub record Beside : Type 0 where
-      pub prior : previous m d n ≢ 0 → Same m m' d (previous m d n) 8
-      pub later : next m d n ≢ 0 → Same m m' d (next m d n) 0 × Same m m' d (next m d n) 2 × Same m m' d (next m d n) 6 × Same m m' d (next m d n) 7
+      pub prior : PriorStays m m' d n
+      pub later : LaterStays m m' d n
+
+    -- where words 0, 1, 2, 6 and 8 stay
+    module _ (w : Words8 d) (same : (g : ℕ) → (g < 9) × ¬ ((3 ≤ g) × (g < 6)) × (g ≢ 7) → Same m m' d n g) (lent : SourceStays d n) where
+      source-of : Source m' d n
+      source-of = source-on w n (same 6 (omega arith)) lent (same 2 (omega arith))
+
+      front-of : Same m m' d n 7 → PriorStays m m' d n → Front m' d n
+      front-of e prior = front-on w n (same 6 (omega arith)) lent refl (same 0 (omega arith)) e
+          (λ z. prior z ∙ block m s l .pieces .later z)
+
+      back-of : LaterStays m m' d n → Back m' d n
+      back-of later = back-on w n (same 6 (omega arith)) lent (same 1 (omega arith))
+          (same 2 (omega arith)) (same 8 (omega arith))
+          (λ z. let (a, b, c, e) = later z in (e ∙ block m s l .pieces .more z .back, a, b, c))
 
     -- sentences 8 and 9 of a block whose words 0, 1, 2, 6, 7 and 8 stay
     pub pieces-on : Words8 d → ((g : ℕ) → g < 9 → ¬ ((3 ≤ g) × (g < 6)) → Same m m' d n g) → SourceStays d n → Beside → Source m' d n × Pieces m' d n
     pieces-on w same lent by =
-        let k : (g : ℕ) → g < 9 → ¬ ((3 ≤ g) × (g < 6)) → Same m m' d n g = same in
-        let k6 = k 6 (omega arith) (λ (y, z). omega arith) in
-        let k2 = k 2 (omega arith) (λ (y, z). omega arith) in (
-          source-on w n k6 lent k2,
-          pieces-of
-              (front-on w n k6 lent refl (k 0 (omega arith) (λ (y, z). omega arith)) (k 7 (omega arith) (λ (y, z). omega arith)) (λ z. by .prior z ∙ block m s l .pieces .later z))
-              (back-on w n k6 lent (k 1 (omega arith) (λ (y, z). omega arith)) k2 (k 8 (omega arith) (λ (y, z). omega arith))
-              (λ z. let (a, b, c, e) = by .later z in (e ∙ block m s l .pieces .more z .back, a, b, c))),
-        )
+        let k : (g : ℕ) → (g < 9) × ¬ ((3 ≤ g) × (g < 6)) × (g ≢ 7) → Same m m' d n g = λ g (i, a, b). same g i a in
+        (source-of w k lent, pieces-of (front-of w k lent (same 7 (omega arith) (omega arith)) (by .prior)) (back-of w k lent (by .later)))
+
+    -- a block whose own words stay, but maybe for previous
+    pub slot-behind : Words8 d → ((g : ℕ) → g < 9 → g ≢ 7 → Same m m' d n g) → Named d n → SourceStays d n → Front m' d n → LaterStays m m' d n
+        → Slot m' d n
+    slot-behind w same names lent front later =
+        let k : (g : ℕ) → (g < 9) × ¬ ((3 ≤ g) × (g < 6)) × (g ≢ 7) → Same m m' d n g = λ g (i, a, b). same g i b in
+        let e0 = same 0 (omega arith) (omega arith) in
+        let e1 = same 1 (omega arith) (omega arith) in
+        let e3 = same 3 (omega arith) (omega arith) in
+        block-slot (λ z. l .block (sym e3 ∙ z)) (record {
+          form = form-kept m m' size e0 e1 (same 2 (omega arith) (omega arith)) e3 (block m s l .form);
+          uses = use-on e0 (λ z. e1) e3 (same 4 (omega arith) (omega arith)) (same 5 (omega arith) (omega arith)) names;
+          sources = source-of w k lent;
+          pieces = pieces-of front (back-of w k lent later);
+        })
 
     -- a block whose own words all stay
     pub slot-on : Words8 d → ((g : ℕ) → g < 9 → Same m m' d n g) → Named d n → SourceStays d n → Beside → Slot m' d n
-    slot-on w same k lent by = record {
-      free = λ z. absurd (l .block (sym (same 3 (omega arith)) ∙ z));
-      taken = λ z. let x = pieces-on w (λ g i a. same g i) lent by in record {
-        form = form-kept m m' size (same 0 (omega arith)) (same 1 (omega arith)) (same 2 (omega arith)) (same 3 (omega arith)) (block m s l .form);
-        uses = use-on (same 0 (omega arith)) (λ w. same 1 (omega arith)) (same 3 (omega arith)) (same 4 (omega arith)) (same 5 (omega arith)) k;
-        sources = x .0;
-        pieces = x .1;
-      };
-    }
+    slot-on w same names lent by =
+        slot-behind w (λ g i a. same g i) names lent (front-of w (λ g (i, a, b). same g i) lent (same 7 (omega arith)) (by .prior)) (by .later)
 
     -- a block of whose own words only use, child and link change, as where it is taken or given back
     pub turned : Words8 d → ((g : ℕ) → g < 9 → ¬ ((3 ≤ g) × (g < 6)) → Same m m' d n g) → used m' d n ≢ 0 → used m' d n ≤ 4 → Use m' d n → SourceStays d n
@@ -189,32 +207,23 @@ module _ (m m' : List ℕ) (s : Sound m) (size : length m' ≡ length m) where
     turned w same some known uses lent by =
         let x = pieces-on w same lent by in
         let o = block m s l .form in
-        let e0 = same 0 (omega arith) (λ (y, z). omega arith) in
-        let e1 = same 1 (omega arith) (λ (y, z). omega arith) in
-        let e2 = same 2 (omega arith) (λ (y, z). omega arith) in
-        record {
-          free = λ z. absurd (some z);
-          taken = λ z. record {
-            form = record {
-              long = omega (arith, e0, e1, o .long);
-              inside = omega (arith, e1, o .inside, size);
-              fewRights = omega (arith, e2, o .fewRights);
-              known = known;
-            };
-            uses = uses;
-            sources = x .0;
-            pieces = x .1;
+        let e1 = same 1 (omega arith) (omega arith) in
+        block-slot some (record {
+          form = record {
+            long = omega (arith, same 0 (omega arith) (omega arith), e1, o .long);
+            inside = omega (arith, e1, o .inside, size);
+            fewRights = omega (arith, same 2 (omega arith) (omega arith), o .fewRights);
+            known = known;
           };
-        }
+          uses = uses;
+          sources = x .0;
+          pieces = x .1;
+        })
 
     pub given-back : Words8 d → ((g : ℕ) → g < 9 → ¬ ((3 ≤ g) × (g < 6)) → Same m m' d n g) → used m' d n ≡ 1 → child m' d n ≡ 0 → link m' d n ≡ 0
         → SourceStays d n → Beside → Slot m' d n
-    given-back w same hand noChild noLink lent by = turned w same (λ z. omega (arith, z, hand)) (omega (arith, hand)) (record {
-      use1 = λ e. record { noChild = noChild; noLink = noLink };
-      use2 = λ e. absurd (omega (arith, e, hand));
-      use3 = λ e. absurd (omega (arith, e, hand));
-      use4 = λ e. absurd (omega (arith, e, hand));
-    }) lent by
+    given-back w same hand noChild noLink lent by =
+        turned w same (λ z. omega (arith, z, hand)) (omega (arith, hand)) (in-hand hand noChild noLink) lent by
 
   pub free-on : (d n : ℕ) → Partition m d → Has m d n → used m d n ≡ 0 → ((g : ℕ) → g < 9 → Same m m' d n g) → Slot m' d n
   free-on d n p h e same = record {

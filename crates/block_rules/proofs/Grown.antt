@@ -15,7 +15,8 @@ use Rattle.block_memory.specs.Sound.{Sound, Descriptor, Structure, RootStructur
 use Rattle.block_soundness.proofs.Blocks.{block}
 use Rattle.block_soundness.proofs.Once.{above-first}
 use Rattle.block_soundness.proofs.Records.{named-own, named-child}
-use Rattle.block_rules.proofs.Keep.{Same}
+use Rattle.block_rules.proofs.Child.{child-of}
+use Rattle.block_rules.proofs.Keep.{Same, FirstStays}
 use Rattle.block_rules.proofs.Ground.{Words8, descriptor-on, Held, structure-on, root-structure-on, Named}
 
 -- blocks with use 3 or 4 keep their words 0 to 6
@@ -33,9 +34,7 @@ pub record Grown (m m' : List ℕ) : Type 0 where
 pub named-partition : (m : List ℕ) (s : Sound m) (d c : ℕ) → Partition m d → (c ≢ 0 → used m d c ≡ 3) → Partition m (named m d c)
 named-partition m s d c p h = elim (ℕ-discrete c 0) [
   | yes z ↦ subst (Partition m) (sym (named-own m s d c z)) p
-  | no z ↦
-      let l : Live m d c = record { partition = p; block = λ w. omega (arith, w, h z) } in
-      subst (Partition m) (sym (named-child m s d c z)) (block m s l .uses .use3 (h z) .listed)
+  | no z ↦ subst (Partition m) (sym (named-child m s d c z)) (child-of m s d c p (h z) .listed)
 ]
 
 -- the structure that stands in a block of use 4
@@ -65,7 +64,9 @@ module _ (m m' : List ℕ) (s : Sound m) (f : Grown m m') where
     })
 
     held : (h n : ℕ) → Partition m h → used m h n ≡ 4 → Held m m' s (f .size) h n
-    held h n p e = (kernel-use h n 3 4 p e (omega arith) (omega arith), kernel-use h n 4 4 p e (omega arith) (omega arith), kernel-use h n 5 4 p e (omega arith) (omega arith))
+    held h n p e =
+        let k : (g : ℕ) → g < 7 → Same m m' h n g = λ g i. kernel-use h n g 4 p e (omega arith) i in
+        (k 3 (omega arith), k 4 (omega arith), k 5 (omega arith))
 
     pub structure-kept : (d k : ℕ) → Partition m d → structure m d k ≢ 0 → ¬ ((d ≡ root m) × (k ≡ 1)) → Structure m' d k (structure m' d k)
     structure-kept d k p z g =
@@ -86,8 +87,7 @@ module _ (m m' : List ℕ) (s : Sound m) (f : Grown m m') where
         b8 p8
 
     -- what a block of use 2, 3 or 4 names, but for the first piece
-    pub names : (d n : ℕ) → Live m d n
-        → (used m d n ≡ 2 → Same m m' (place m d (child m d n)) (link m d n) 6 × Same m m' (place m d (child m d n)) (link m d n) 7) → Named m m' s (f .size) d n
+    pub names : (d n : ℕ) → Live m d n → FirstStays m m' d n → Named m m' s (f .size) d n
     names d n l first = record {
       kid = λ u. (kernel-use d _ 0 3 (l .partition) u (omega arith) (omega arith), kernel-use d _ 3 3 (l .partition) u (omega arith) (omega arith));
       first = first;

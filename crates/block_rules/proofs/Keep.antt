@@ -1,9 +1,9 @@
 -- A block keeps its sentences 6 to 9 where the words that they look at stay. Assumes nothing.
 use mathlib.Core.Path.{_≡_, refl, sym, ap, ap₂, _∙_, subst}
 use mathlib.Core.List.{List}
-use mathlib.Core.Bool.{Bool, cond}
+use mathlib.Core.Bool.{cond}
 use mathlib.Core.Logic.{_≢_}
-use Prim.Native.Nat.{ℕ, _+_, _*_, _/_}
+use Prim.Native.Nat.{ℕ, _+_, _*_, _/_, _<_}
 use native.Mathlib.Omega.{arith}
 use native.Mathlib.Decide.{ℕ-discrete}
 use lib.Bits.{bitAnd}
@@ -12,8 +12,9 @@ use lib.ListN.{length}
 use borrow.Author.Tests.{eq-eqb, ne-eqb}
 use Rattle.block_memory.specs.Geometry.{wordFrom, firstByte}
 use Rattle.block_memory.specs.Words.{word}
-use Rattle.block_memory.specs.Partition.{root, Partition, parent, number, structure, field, start, end, rights, used, child, link, source, previous, next, place, named}
-use Rattle.block_memory.specs.Sound.{Form, Use, Source, Next, Pieces, sourceStart, sourceEnd, sourceLink}
+use Rattle.block_memory.specs.Partition.{root, Partition, parent, number, structure, field, start, end, rights, used, child, link, source, previous, next}
+use Rattle.block_memory.specs.Partition.{place, named}
+use Rattle.block_memory.specs.Sound.{Form, Use, Source, Next, Pieces, Block, Slot, sourceStart, sourceEnd, sourceLink}
 
 -- block b of d, or another
 pub this-or : (P : ℕ → ℕ → Type 0) (d b u o : ℕ) → P d b → (¬ ((u ≡ d) × (o ≡ b)) → P u o) → P u o
@@ -34,10 +35,36 @@ Back m d n = (next m d n ≡ 0 → end m d n ≡ sourceEnd m d n) × (next m d n
 pub pieces-of : {m : List ℕ} {d n : ℕ} → Front m d n → Back m d n → Pieces m d n
 pieces-of f b = record { first = f .0; later = f .1; last = b .0; more = b .1 }
 
+-- sentence 7 of a block in hand
+pub in-hand : {m : List ℕ} {d n : ℕ} → used m d n ≡ 1 → child m d n ≡ 0 → link m d n ≡ 0 → Use m d n
+in-hand hand noChild noLink = record {
+  use1 = λ e. record { noChild = noChild; noLink = noLink };
+  use2 = λ e. absurd (omega (arith, e, hand));
+  use3 = λ e. absurd (omega (arith, e, hand));
+  use4 = λ e. absurd (omega (arith, e, hand));
+}
+
+-- a slot that has a block, and one that is wiped
+pub block-slot : {m : List ℕ} {d n : ℕ} → used m d n ≢ 0 → Block m d n → Slot m d n
+block-slot some b = record { free = λ z. absurd (some z); taken = λ z. b }
+
+pub wiped-slot : {m : List ℕ} {d n : ℕ} → ((g : ℕ) → g < 9 → field m d n g ≡ 0) → Slot m d n
+wiped-slot w = record { free = λ z. w; taken = λ z. absurd (z (w 3 (omega arith))) }
+
 module _ (m m' : List ℕ) where
   -- word g of block n of d stays
   abbrev pub Same : ℕ → ℕ → ℕ → Type 0
   Same d n g = field m' d n g ≡ field m d n g
+
+  -- what sentence 7 looks at of a lent block's first piece, and sentence 9 of the pieces before and after a block
+  abbrev pub FirstStays : ℕ → ℕ → Type 0
+  FirstStays d n = used m d n ≡ 2 → Same (place m d (child m d n)) (link m d n) 6 × Same (place m d (child m d n)) (link m d n) 7
+
+  abbrev pub PriorStays : ℕ → ℕ → Type 0
+  PriorStays d n = previous m d n ≢ 0 → Same d (previous m d n) 8
+
+  abbrev pub LaterStays : ℕ → ℕ → Type 0
+  LaterStays d n = next m d n ≢ 0 → Same d (next m d n) 0 × Same d (next m d n) 2 × Same d (next m d n) 6 × Same d (next m d n) 7
 
   -- ---- 6
 
@@ -59,18 +86,18 @@ module _ (m m' : List ℕ) where
     pub links : Same d n 5
     -- the child that it names
     pub kid : used m d (child m d n) ≡ 3 → Same d (child m d n) 0 × Same d (child m d n) 3
-    -- the first piece
-    pub first : used m d n ≡ 2 → Same (place m d (child m d n)) (link m d n) 6 × Same (place m d (child m d n)) (link m d n) 7
+    pub first : FirstStays d n
     -- the descriptor or the structure that stands in it
-    pub desc : used m d n ≡ 3 → Partition m' (place m d n) × (parent m' (place m d n) ≡ parent m (place m d n)) × (number m' (place m d n) ≡ number m (place m d n))
+    pub desc : used m d n ≡ 3
+        → Partition m' (place m d n) × (parent m' (place m d n) ≡ parent m (place m d n)) × (number m' (place m d n) ≡ number m (place m d n))
     pub struct : used m d n ≡ 4
         → (structure m' (named m d (child m d n)) (link m d n) ≡ structure m (named m d (child m d n)) (link m d n))
         × (word m' (place m d n) ≡ word m (place m d n)) × (word m' (place m d n + 1) ≡ word m (place m d n + 1))
 
   pub named-same : (d c : ℕ) → (c ≢ 0 → Same d c 0) → named m' d c ≡ named m d c
   named-same d c h = elim (ℕ-discrete c 0) [
-    | yes z ↦ ap (λ (t : Bool). cond t d (place m' d c)) (eq-eqb c 0 z) ∙ sym (ap (λ (t : Bool). cond t d (place m d c)) (eq-eqb c 0 z))
-    | no z ↦ ap (λ (t : Bool). cond t d (place m' d c)) (ne-eqb c 0 z) ∙ ap wordFrom (h z) ∙ sym (ap (λ (t : Bool). cond t d (place m d c)) (ne-eqb c 0 z))
+    | yes z ↦ rw (eq-eqb c 0 z)
+    | no z ↦ rw (ne-eqb c 0 z) (ap wordFrom (h z))
   ]
 
   pub use-kept : {d n : ℕ} → UseKept d n → Use m d n → Use m' d n
@@ -107,9 +134,12 @@ module _ (m m' : List ℕ) where
             let h = u .use4 e' in
             let (a, b, c) = k .struct e' in
             let en = k .ends (λ z. omega (arith, z, e')) in
-            let w : named m' d (child m' d n) ≡ named m d (child m d n) = ap (named m' d) (k .childs) ∙ named-same d (child m d n) (λ z. k .kid (h .whose z) .0) in
+            let w : named m' d (child m' d n) ≡ named m d (child m d n) =
+            ap (named m' d) (k .childs) ∙ named-same d (child m d n) (λ z. k .kid (h .whose z) .0) in
             record {
-              whose = λ z. let z' : child m d n ≢ 0 = λ y. z (k .childs ∙ y) in ap (λ (x : ℕ). used m' d x) (k .childs) ∙ k .kid (h .whose z') .1 ∙ h .whose z';
+              whose = λ z.
+                  let u : used m d (child m d n) ≡ 3 = h .whose (λ y. z (k .childs ∙ y)) in
+                  ap (λ (x : ℕ). used m' d x) (k .childs) ∙ k .kid u .1 ∙ u;
               room = omega (arith, h .room, at, en);
               there = ap₂ (λ (p q : ℕ). structure m' p q) w (k .links) ∙ a ∙ h .there ∙ sym at;
               numberWord = ap (word m') at ∙ b ∙ h .numberWord;
@@ -128,7 +158,8 @@ module _ (m m' : List ℕ) where
 
   module _ (d o n : ℕ) (size : length m' ≡ length m) (sources : Was d o n 6) (parents : parent m' d ≡ parent m d) where
     pub source-from : number m' d ≡ number m d → Was d o n 2
-        → (d ≢ root m → Same (parent m d) (source m d n) 2 × Same (parent m d) (source m d n) 3 × Same (parent m d) (source m d n) 4) → Source m d n → Source m' d o
+        → (d ≢ root m → Same (parent m d) (source m d n) 2 × Same (parent m d) (source m d n) 3 × Same (parent m d) (source m d n) 4)
+        → Source m d n → Source m' d o
     source-from numbers right lent s = record {
       ofRoot = λ e.
           let e' : d ≡ root m = e ∙ root-is size in
@@ -150,15 +181,10 @@ module _ (m m' : List ℕ) where
 
     at-source : (g a b : ℕ) → a ≡ b → (d ≢ root m → Same (parent m d) (source m d n) g)
         → cond (eqb d (root m')) a (field m' (parent m' d) (source m' d o) g) ≡ cond (eqb d (root m)) b (field m (parent m d) (source m d n) g)
-    at-source g a b e h =
-        ap (λ (r : ℕ). cond (eqb d r) a (field m' (parent m' d) (source m' d o) g)) (root-is size)
-        ∙ elim (ℕ-discrete d (root m)) [
-          | yes z ↦ ap (λ (t : Bool). cond t a (field m' (parent m' d) (source m' d o) g)) (eq-eqb d (root m) z) ∙ e
-              ∙ sym (ap (λ (t : Bool). cond t b (field m (parent m d) (source m d n) g)) (eq-eqb d (root m) z))
-          | no z ↦ ap (λ (t : Bool). cond t a (field m' (parent m' d) (source m' d o) g)) (ne-eqb d (root m) z)
-              ∙ ap₂ (λ (x y : ℕ). field m' x y g) parents sources ∙ h z
-              ∙ sym (ap (λ (t : Bool). cond t b (field m (parent m d) (source m d n) g)) (ne-eqb d (root m) z))
-        ]
+    at-source g a b e h = rw (root-is size) (elim (ℕ-discrete d (root m)) [
+      | yes z ↦ rw (eq-eqb d (root m) z) e
+      | no z ↦ rw (ne-eqb d (root m) z) (ap₂ (λ (x y : ℕ). field m' x y g) parents sources ∙ h z)
+    ])
 
     -- previous, and what it asks
     pub front-from : Was d o n 0 → Was d o n 7 → o ≡ n
@@ -176,7 +202,8 @@ module _ (m m' : List ℕ) where
     -- next, and what it asks
     pub back-from : Was d o n 1 → Was d o n 2 → Was d o n 8
         → (d ≢ root m → Same (parent m d) (source m d n) 1)
-        → (next m d n ≢ 0 → (previous m' d (next m d n) ≡ o) × Same d (next m d n) 0 × Same d (next m d n) 2 × Same d (next m d n) 6) → Pieces m d n → Back m' d o
+        → (next m d n ≢ 0 → (previous m' d (next m d n) ≡ o) × Same d (next m d n) 0 × Same d (next m d n) 2 × Same d (next m d n) 6)
+        → Pieces m d n → Back m' d o
     back-from ends right behind lent later p = (
       (λ e. ends ∙ p .last (sym behind ∙ e) ∙ sym (at-source 1 _ _ (ap (λ (w : ℕ). 4 * w) size) lent)),
       (λ e.

@@ -7,58 +7,63 @@ use native.Mathlib.Omega.{arith}
 use native.Mathlib.Decide.{ℕ-discrete}
 use Rattle.block_memory.specs.Partition.{root, current, Partition, entry, Has, used, child, link, previous, next, place}
 use Rattle.block_memory.specs.Bytes.{Live}
-use Rattle.block_memory.specs.Sound.{Sound, Entries, Slot, Use, Source}
-use Rattle.block_soundness.proofs.Blocks.{block, live, number-some}
-use Rattle.block_soundness.proofs.Once.{up}
+use Rattle.block_memory.specs.Sound.{Sound, Entries, Slot, Source}
+use Rattle.block_soundness.proofs.Blocks.{number-some}
+use Rattle.block_soundness.proofs.Once.{up, lends}
 use Rattle.block_rules.proofs.Frame.{Frame}
-use Rattle.block_rules.proofs.Slots.{SameFields, FewerEntries}
-use Rattle.block_rules.proofs.Keep.{Same, Was, Front, Back}
-use Rattle.block_rules.proofs.Ground.{SourceStays, use-on, source-on, front-on, back-on, Beside, slot-on, free-on, still-on}
+use Rattle.block_rules.proofs.EntryWrite.{SameFields}
+use Rattle.block_rules.proofs.Disabled.{FewerEntries}
+use Rattle.block_rules.proofs.Keep.{Front, Back, Same, FirstStays, PriorStays, LaterStays, Was}
+use Rattle.block_rules.proofs.Ground.{Words8, Named, SourceStays, source-on, front-on, back-on, slot-behind, slot-on, free-on, still-on}
 use Rattle.block_rules.proofs.Grown.{KernelStays, words8, names}
 use Rattle.block_rules.proofs.Framed.{grown, framed}
 
 module _ (m m' : List ℕ) (s : Sound m) (f : Frame m m') (kernel : KernelStays m m') where
-  -- the first piece of a lent block
-  abbrev pub FirstStays : ℕ → ℕ → Type 0
-  FirstStays d n = used m d n ≡ 2 → Same m m' (place m d (child m d n)) (link m d n) 6 × Same m m' (place m d (child m d n)) (link m d n) 7
+  eight : {d n : ℕ} → Live m d n → Words8 m m' s (f .size) d
+  eight {d} l = words8 m m' s (grown m m' s f) d (l .partition)
 
-  pub use-stays : {d n : ℕ} → Live m d n → Same m m' d n 0 → (used m d n ≢ 1 → Same m m' d n 1) → Same m m' d n 3 → Same m m' d n 4 → Same m m' d n 5
-      → FirstStays d n → Use m' d n
-  use-stays {d} {n} l a b c e g first = use-on m m' s (f .size) l a b c e g (names m m' s (grown m m' s f) kernel d n l first)
+  names-stay : {d n : ℕ} → Live m d n → FirstStays m m' d n → Named m m' s (f .size) d n
+  names-stay {d} {n} l first = names m m' s (grown m m' s f) kernel d n l first
 
   module _ {d n : ℕ} (l : Live m d n) (o : ℕ) (sources : Was m m' d o n 6) (lent : SourceStays m m' s (f .size) d n) where
     pub source-stays : Was m m' d o n 2 → Source m' d o
-    source-stays a = source-on m m' s (f .size) l (words8 m m' s (grown m m' s f) d (l .partition)) o sources lent a
+    source-stays = source-on m m' s (f .size) l (eight l) o sources lent
 
     pub front-stays : o ≡ n → Was m m' d o n 0 → Was m m' d o n 7 → (previous m d n ≢ 0 → next m' d (previous m d n) ≡ o) → Front m' d o
-    front-stays e a b prior = front-on m m' s (f .size) l (words8 m m' s (grown m m' s f) d (l .partition)) o sources lent e a b prior
+    front-stays = front-on m m' s (f .size) l (eight l) o sources lent
 
     pub back-stays : Was m m' d o n 1 → Was m m' d o n 2 → Was m m' d o n 8
-        → (next m d n ≢ 0 → (previous m' d (next m d n) ≡ o) × Same m m' d (next m d n) 0 × Same m m' d (next m d n) 2 × Same m m' d (next m d n) 6) → Back m' d o
-    back-stays a b c later = back-on m m' s (f .size) l (words8 m m' s (grown m m' s f) d (l .partition)) o sources lent a b c later
+        → (next m d n ≢ 0 → (previous m' d (next m d n) ≡ o) × Same m m' d (next m d n) 0 × Same m m' d (next m d n) 2 × Same m m' d (next m d n) 6)
+        → Back m' d o
+    back-stays = back-on m m' s (f .size) l (eight l) o sources lent
 
   pub free-stays : (d n : ℕ) → Partition m d → Has m d n → used m d n ≡ 0 → ((g : ℕ) → g < 9 → Same m m' d n g) → Slot m' d n
   free-stays = free-on m m' s (f .size)
 
   -- a block whose own words all stay, and what it names
-  pub slot-stays : {d n : ℕ} → Live m d n → ((g : ℕ) → g < 9 → Same m m' d n g) → FirstStays d n → SourceStays m m' s (f .size) d n
-      → (previous m d n ≢ 0 → Same m m' d (previous m d n) 8)
-      → (next m d n ≢ 0 → Same m m' d (next m d n) 0 × Same m m' d (next m d n) 2 × Same m m' d (next m d n) 6 × Same m m' d (next m d n) 7)
-      → Slot m' d n
-  slot-stays {d} {n} l same first lent prior later =
-      slot-on m m' s (f .size) l (words8 m m' s (grown m m' s f) d (l .partition)) same (names m m' s (grown m m' s f) kernel d n l first) lent (record { prior = prior; later = later })
+  pub slot-stays : {d n : ℕ} → Live m d n → ((g : ℕ) → g < 9 → Same m m' d n g) → FirstStays m m' d n → SourceStays m m' s (f .size) d n
+      → PriorStays m m' d n → LaterStays m m' d n → Slot m' d n
+  slot-stays l same first lent prior later =
+      slot-on m m' s (f .size) l (eight l) same (names-stay l first) lent (record { prior = prior; later = later })
+
+  -- a slot whose words all stay
+  pub unwritten-stays : (d n : ℕ) → Partition m d → Has m d n → ((g : ℕ) → g < 9 → Same m m' d n g)
+      → (Live m d n → FirstStays m m' d n × SourceStays m m' s (f .size) d n × PriorStays m m' d n × LaterStays m m' d n) → Slot m' d n
+  unwritten-stays d n p h same by = still-on m m' s (f .size) d n p h (words8 m m' s (grown m m' s f) d p) same (λ l.
+      let (first, lent, prior, later) = by l in
+      (names-stay l first, lent, record { prior = prior; later = later }))
+
+  -- a block whose own words stay, but maybe for previous
+  pub behind-stays : {d n : ℕ} → Live m d n → ((g : ℕ) → g < 9 → g ≢ 7 → Same m m' d n g) → FirstStays m m' d n → SourceStays m m' s (f .size) d n
+      → Front m' d n → LaterStays m m' d n → Slot m' d n
+  behind-stays l same first lent front later = slot-behind m m' s (f .size) l (eight l) same (names-stay l first) lent front later
 
 -- the child that a lent block names is a partition, and the first piece is its block
 pub lent-child : (m : List ℕ) (s : Sound m) (d n : ℕ) → Live m d n → used m d n ≡ 2 → Partition m (place m d (child m d n))
-lent-child m s d n l e =
-    let h = block m s l .uses .use2 e in
-    let k : Live m d (child m d n) = record { partition = l .partition; block = λ z. omega (arith, z, h .toChild) } in
-    block m s k .uses .use3 (h .toChild) .listed
+lent-child m s d n l e = lends m s l e .listed
 
 pub first-piece : (m : List ℕ) (s : Sound m) (d n : ℕ) → Live m d n → used m d n ≡ 2 → Live m (place m d (child m d n)) (link m d n)
-first-piece m s d n l e =
-    live m s (place m d (child m d n)) (link m d n) 6 (lent-child m s d n l e) (omega arith)
-    (λ z. omega (arith, z, block m s l .uses .use2 e .fromThis, number-some m s l))
+first-piece m s d n l e = lends m s l e .first
 
 -- entries that are 0 or as they were, of blocks that are in hand
 pub entries-kept : (m m' : List ℕ) → Sound m → (d : ℕ) → Partition m d → ((e : ℕ) → entry m' d e ≢ 0 → entry m' d e ≡ entry m d e)
@@ -74,15 +79,12 @@ module _ (m m' : List ℕ) (s : Sound m) (f : Frame m m') (same : SameFields m m
   all-stay d n g l a b = same d n g (l .partition) (omega arith)
 
   slots : (d n : ℕ) → Partition m d → Has m d n → Slot m' d n
-  slots d n p h = elim (ℕ-discrete (used m d n) 0) [
-    | yes z ↦ free-stays m m' s f all-stay d n p h z (λ g i. same d n g p i)
-    | no z ↦ let l : Live m d n = record { partition = p; block = z } in
-        slot-stays m m' s f all-stay l (λ g i. same d n g p i)
-        (λ e. let t = lent-child m s d n l e in (same _ _ 6 t (omega arith), same _ _ 7 t (omega arith)))
-        (λ e g i. same _ _ g (up m s l e .alive .partition) (omega arith))
-        (λ e. same _ _ 8 p (omega arith))
-        (λ e. (same _ _ 0 p (omega arith), same _ _ 2 p (omega arith), same _ _ 6 p (omega arith), same _ _ 7 p (omega arith)))
-  ]
+  slots d n p h = unwritten-stays m m' s f all-stay d n p h (λ g i. same d n g p i) (λ l. (
+    (λ e. let t = lent-child m s d n l e in (same _ _ 6 t (omega arith), same _ _ 7 t (omega arith))),
+    (λ e g i. same _ _ g (up m s l e .alive .partition) (omega arith)),
+    (λ e. same _ _ 8 p (omega arith)),
+    (λ e. (same _ _ 0 p (omega arith), same _ _ 2 p (omega arith), same _ _ 6 p (omega arith), same _ _ 7 p (omega arith))),
+  ))
 
   pub fields-stay : Partition m (current m') → ((d : ℕ) → Partition m d → Entries m' d) → Sound m'
   fields-stay c en =
@@ -93,13 +95,8 @@ module _ (m m' : List ℕ) (s : Sound m) (f : Frame m m') (same : SameFields m m
   pub fewer-entries : (d : ℕ) → Partition m d → ((e : ℕ) → entry m' d e ≢ 0 → entry m' d e ≡ entry m d e) → Entries m' d
   fewer-entries d p h = entries-kept m m' s d p h (λ n u e q. same d n 3 p (omega arith) ∙ u)
 
--- a slot whose nine words stay, free or a block
-module _ (m m' : List ℕ) (s : Sound m) (f : Frame m m') (kernel : KernelStays m m') where
-  pub still : (d n : ℕ) → Partition m d → Has m d n → ((g : ℕ) → g < 9 → Same m m' d n g)
-      → ((l : Live m d n) → FirstStays m m' s f kernel d n × SourceStays m m' s (f .size) d n × Beside m m' s (f .size) l) → Slot m' d n
-  still d n p h same by = still-on m m' s (f .size) d n p h (words8 m m' s (grown m m' s f) d p) same (λ l.
-      let (first, lent, beside) = by l in
-      (names m m' s (grown m m' s f) kernel d n l first, lent, beside))
+  pub fewer-sound : Partition m (current m') → FewerEntries m m' → Sound m'
+  fewer-sound c h = fields-stay c (λ d p. fewer-entries d p (λ e z. h d e p z))
 
 -- entries where block b of d is no longer enabled, and every other block in hand stays in hand
 pub entries-off : (m m' : List ℕ) (s : Sound m) (d b : ℕ) → Live m d b → FewerEntries m m' → ((e : ℕ) → entry m' d e ≢ 0 → entry m' d e ≢ b)

@@ -1,5 +1,10 @@
 pub mod Writes
 pub mod Frame
+pub mod SlotWrite
+pub mod EntryWrite
+pub mod CurrentWrite
+pub mod Disabled
+pub mod Trail
 pub mod Slots
 pub mod Keep
 pub mod Ground
@@ -7,6 +12,8 @@ pub mod Grown
 pub mod Framed
 pub mod Rows
 pub mod Kept
+pub mod Chain
+pub mod Pieces
 pub mod Child
 pub mod Uses
 pub mod Formatted
@@ -25,3 +32,4 @@ pub mod steps
 pub mod Lengths
 pub mod Step
 pub mod Promises
+pub mod Told

@@ -2,7 +2,7 @@
 use mathlib.Core.Path.{_≡_, refl}
 use mathlib.Core.Logic.{_≢_}
 use mathlib.Core.List.{List}
-use mathlib.Core.Bool.{Bool, true, false, not, _||_}
+use mathlib.Core.Bool.{Bool, true, false, true≢false, not, _||_}
 use Prim.Native.Nat.{ℕ}
 use native.Mathlib.Omega.{arith}
 use lib.Dec.{eqb}
@@ -36,5 +36,5 @@ pub is : (x y : ℕ) → not (eqb x y) ≡ false → x ≡ y
 is x y e = eqb-true x y (not-false (eqb x y) e)
 
 pub neither : (s t : Bool) → (s || t) ≡ false → (s ≡ false) × (t ≡ false)
-neither true t e = absurd (let z : _≡_ {A = ℕ} 0 1 = cc in omega arith)
+neither true t e = absurd (true≢false e)
 neither false t e = (refl, e)

@@ -1,25 +1,22 @@
 -- Every call keeps memory sound, and so does every sequence of calls. Assumes nothing.
-use mathlib.Core.Path.{_≡_, refl, ap, _∙_}
+use mathlib.Core.Path.{_≡_, refl, ap}
 use mathlib.Core.List.{List, [], _∷_}
 use mathlib.Core.Logic.{_≢_}
 use mathlib.Core.Bool.{Bool, true, false, cond, not, _&&_}
 use Prim.Native.Nat.{ℕ, zero, suc}
-use native.Mathlib.Omega.{arith}
 use lib.Dec.{eqb}
 use lib.ListN.{length}
-use borrow.Author.Tests.{eqb-true, eqb-false, ltb-false, not-false}
-use Rattle.walk.specs.Reflect as R
+use borrow.Author.Tests.{eqb-true, eqb-false, ne-eqb, eq-eqb, ltb-false, not-false}
 use Rattle.common.specs.Row
-use Rattle.common.specs.Row.{_when_, Answer, reply, pass}
+use Rattle.common.specs.Row.{pass}
 use Rattle.common.proofs.Rows.{Passed}
-use Rattle.block_memory.specs.Partition.{current, Partition, used, next, named, entryOf}
+use Rattle.block_memory.specs.Partition.{current, Partition, used, next, named}
 use Rattle.block_memory.specs.Sound.{Sound}
 use Rattle.block_soundness.proofs.Ranges.{permitted?}
-use Rattle.block_soundness.specs.Test.{soundTest}
 use Rattle.block_soundness.proofs.Whole.{sound?}
-use Rattle.block_rules.specs.Refusal.{DAMAGED}
-use Rattle.block_rules.specs.Row.{Check, first}
-use Rattle.block_rules.specs.Call.{Service, Call, formatAll, serve, create, delete, prepare, collect, add, remove, cut, merge, enable, readEnabled, find, enter, leave}
+use Rattle.block_rules.specs.Row.{first}
+use Rattle.block_rules.specs.Call.{Service, Call, formatAll, serve, create, delete, prepare, collect, add, remove, cut, merge, enable, readEnabled, find}
+use Rattle.block_rules.specs.Call.{enter, leave}
 use Rattle.block_rules.specs.Refusals.{refusalsOf, refusals, refusal}
 use Rattle.block_rules.specs.Effects.{mergeTwo, lower, higher, effectOf, effect}
 use Rattle.block_rules.specs.Calls.{after, run}
@@ -36,18 +33,6 @@ use Rattle.block_rules.proofs.steps.Prepare.{prepare-sound}
 use Rattle.block_rules.proofs.steps.Collect.{collect-sound}
 use Rattle.block_rules.proofs.steps.Delete.{delete-sound}
 
--- two tests that don't both hold
-not-both : (s t : Bool) → (s && t) ≡ false → s ≡ true → t ≡ false
-not-both true t e h = e
-not-both false t e h = let z : _≡_ {A = ℕ} 0 1 = cc in absurd (omega arith)
-
-isn't : (x y : ℕ) → x ≢ y → not (eqb x y) ≡ true
-isn't x y h = go (eqb x y) refl
-  where
-    go : (t : Bool) → eqb x y ≡ t → not t ≡ true
-    go true e = absurd (h (eqb-true x y e))
-    go false e = refl
-
 module _ (m : List ℕ) (s : Sound m) where
   abbrev d : ℕ
   d = current m
@@ -57,9 +42,11 @@ module _ (m : List ℕ) (s : Sound m) where
 
   -- a partition argument that passes
   whose : (c : ℕ) → (not (eqb c 0) && not (eqb (used m d c) 3)) ≡ false → c ≢ 0 → used m d c ≡ 3
-  whose c e h = is _ _ (not-both _ _ e (isn't c 0 h))
+  whose c e h = is _ _ (rw (ne-eqb c 0 h) at e)
 
-  joined : (a b : ℕ) → (not (eqb (next m d a) b) && not (eqb (next m d b) a)) ≡ false → used m d a ≡ 1 → used m d b ≡ 1 → Sound (mergeTwo m d (lower m d a b) (higher m d a b))
+  -- two blocks of which one is the other's next
+  joined : (a b : ℕ) → (not (eqb (next m d a) b) && not (eqb (next m d b) a)) ≡ false → used m d a ≡ 1 → used m d b ≡ 1
+      → Sound (mergeTwo m d (lower m d a b) (higher m d a b))
   joined a b e x y = go (eqb (next m d a) b) refl e
     where
       go : (t : Bool) → eqb (next m d a) b ≡ t → (not t && not (eqb (next m d b) a)) ≡ false → Sound (mergeTwo m d (cond t a b) (cond t b a))
@@ -84,7 +71,7 @@ module _ (m : List ℕ) (s : Sound m) where
   service-sound (merge x y) (e, (f, u)) = let (h, k) = neither _ _ e in joined x y f (is _ _ h) (is _ _ k)
   service-sound (enable c b on) (e, (f, (g, u))) =
       enable-sound m s (named m d c) b on (named-partition m s d c p (whose c e)) (is _ _ f)
-      (λ x y. eqb-false _ _ (not-both _ _ g (R.both {P = not (eqb on 0) ≡ true} {Q = entryOf m (named m d c) b ≡ 0} ((λ z. z), λ z. z) R.eq? .1 (isn't on 0 x, y))))
+      (λ x y. eqb-false _ _ (rw (ne-eqb on 0 x, eq-eqb _ 0 y) at g))
   service-sound (readEnabled c e) u = s
   service-sound (find c x) u = s
   service-sound (enter c) (e, u) = enter-sound m s c (is _ _ e)

@@ -5,4 +5,6 @@ pub mod Conditions
 pub mod Refusals
 pub mod Effects
 pub mod Calls
+pub mod Found
+pub mod Unmerged
 pub mod Deleted

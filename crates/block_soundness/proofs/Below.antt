@@ -7,9 +7,9 @@ use native.Mathlib.Omega.{arith}
 use native.Mathlib.Decide.{ℕ-discrete, decLt}
 use Rattle.block_memory.specs.Partition.{root, Partition, parent, number, level, used, child, source}
 use Rattle.block_memory.specs.Tree.{Below, self, under}
-use Rattle.block_memory.specs.Bytes.{Live, HasByte, Keeps}
+use Rattle.block_memory.specs.Bytes.{HasByte, Keeps}
 use Rattle.block_memory.specs.Sound.{Sound}
-use Rattle.block_soundness.proofs.Blocks.{block, number-some}
+use Rattle.block_soundness.proofs.Blocks.{used-as, block, number-some}
 use Rattle.block_soundness.proofs.Once.{other, up, up-byte, same-child, equal-level, deeper, once, above-first}
 use Rattle.block_soundness.proofs.Records.{in-bytes, desc-in}
 
@@ -24,7 +24,8 @@ module _ (m : List ℕ) (s : Sound m) where
   stands : (u : ℕ) → Partition m u → u ≢ root m → Keeps m (parent m u) (number m u) (4 * u)
   stands u p h = subst (λ (x : ℕ). Keeps m (parent m u) (number m u) (4 * x)) (omega arith) (in-bytes m s (desc-in m s u p h) 0 (omega arith))
 
-  module _ (d c t : ℕ) (pd : Partition m d) (pt : Partition m t) (nt : t ≢ root m) (up-t : parent m t ≡ d) (number-t : number m t ≡ c) (use-c : used m d c ≡ 3) where
+  module _ (d c t : ℕ) (pd : Partition m d) (pt : Partition m t) (nt : t ≢ root m) (up-t : parent m t ≡ d) (number-t : number m t ≡ c)
+      (use-c : used m d c ≡ 3) where
     -- every block of these lies in a block of d lent to t
     pub in-lent : {u : ℕ} → Below m t u → (o x : ℕ) → HasByte m u o x → (n : ℕ) × LentByte m d c n x
     in-lent self o x b =
@@ -74,8 +75,10 @@ module _ (m : List ℕ) (s : Sound m) where
         let k = stands u p h in
         elim (decLt (level m d) (level m (parent m u))) [
           | yes g ↦ under u p h (from-lent (level m (parent m u) - level m d - 1) (parent m u) (number m u) n (4 * u) (omega arith) (k .has) l)
-          | no g ↦ absurd (let (i, j) = deeper m s (level m d - level m (parent m u)) (parent m u) d (number m u) n (4 * u) (omega arith) (k .has) (l .has) (k .notLent) in
-              k .notLent (ap₂ (λ (x y : ℕ). used m x y) i j ∙ l .lent))
+          | no g ↦
+              let w = level m d - level m (parent m u) in
+              let (i, j) = deeper m s w (parent m u) d (number m u) n (4 * u) (omega arith) (k .has) (l .has) (k .notLent) in
+              absurd (k .notLent (ap₂ (λ (x y : ℕ). used m x y) i j ∙ l .lent))
         ]
 
     -- a block of d that c owns in any way, with a descriptor's first byte
@@ -88,8 +91,7 @@ module _ (m : List ℕ) (s : Sound m) where
           let k = stands u p h in
           let (i, j) = once m s (parent m u) d (number m u) n (4 * u) k (record { has = b; notLent = z }) in
           let w : used m d n ≡ 3 = ap₂ (λ (x y : ℕ). used m x y) (sym i) (sym j) ∙ s .descriptors u p .ofOther h .stands in
-          let l : Live m d c = record { partition = pd; block = λ y. omega (arith, y, use-c) } in
-          absurd (omega (arith, block m s (b .live) .uses .use3 w .noChild, e, number-some m s l))
+          absurd (omega (arith, block m s (b .live) .uses .use3 w .noChild, e, number-some m s (used-as pd use-c)))
     ]
 
     -- the child's parent isn't one of them

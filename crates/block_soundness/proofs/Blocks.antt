@@ -1,31 +1,26 @@
 -- A block of sound memory, and the blocks that it names. Assumes nothing.
-use mathlib.Core.Path.{_≡_, refl, sym, ap, _∙_}
+use mathlib.Core.Path.{_≡_, sym, ap, _∙_}
 use mathlib.Core.List.{List}
 use mathlib.Core.Logic.{_≢_}
-use mathlib.Core.Bool.{Bool, true, false, cond}
-use Prim.Native.Nat.{ℕ, zero, suc, _+_, _*_, _/_, _≤_, _<_}
+use Prim.Native.Nat.{ℕ, zero, suc, _+_, _*_, _≤_, _<_}
 use native.Mathlib.Omega.{arith}
 use native.Mathlib.Decide.{ℕ-discrete}
-use lib.Dec.{eqb}
 use lib.ListN.{length}
 use borrow.Author.Tests.{eq-eqb}
-use Rattle.block_memory.specs.Geometry.{slotWords, leastBytes, firstByte}
-use Rattle.block_memory.specs.Partition.{root, Partition, parent, structure, Has, field, start, end, link, source, previous, next}
+use Rattle.block_memory.specs.Geometry.{slotWords, leastBytes}
+use Rattle.block_memory.specs.Partition.{Partition, Has, field, start, end, used, source, previous, next}
 use Rattle.block_memory.specs.Bytes.{Live}
 use Rattle.block_memory.specs.Sound.{Sound, Block, sourceStart, sourceEnd, sourceLink}
 use Rattle.block_soundness.proofs.Ranges.{has-range}
 
-guarded : (t : Bool) (x : ℕ) → cond t 0 x ≢ 0 → t ≡ false
-guarded true x h = absurd (h refl)
-guarded false x h = refl
-
 -- what is read isn't 0, so there is a slot
 pub field-has : (m : List ℕ) (d n f : ℕ) → field m d n f ≢ 0 → Has m d n
 unfolding field
-field-has m d n f h e = let t = guarded (eqb (structure m d (n / 8)) 0) _ h in absurd (no (sym t ∙ eq-eqb _ _ e))
-  where
-    no : false ≡ true → ⊥
-    no e = let z : _≡_ {A = ℕ} 0 1 = cc in omega arith
+field-has m d n f h e = h (rw (eq-eqb _ 0 e))
+
+-- a slot that has a use has a block
+pub used-as : {m : List ℕ} {d n k : ℕ} → Partition m d → used m d n ≡ suc k → Live m d n
+used-as p e = record { partition = p; block = λ z. omega (arith, z, e) }
 
 module _ (m : List ℕ) (s : Sound m) where
   pub block : {d n : ℕ} → Live m d n → Block m d n
@@ -72,19 +67,22 @@ module _ (m : List ℕ) (s : Sound m) where
   -- ---- inside the source
 
   pub same-start : (d x y : ℕ) → source m d x ≡ source m d y → sourceStart m d x ≡ sourceStart m d y
-  same-start d x y e = ap (λ (o : ℕ). cond (eqb d (root m)) (firstByte (length m)) (start m (parent m d) o)) e
+  same-start d x y e = rw e
 
   pub same-end : (d x y : ℕ) → source m d x ≡ source m d y → sourceEnd m d x ≡ sourceEnd m d y
-  same-end d x y e = ap (λ (o : ℕ). cond (eqb d (root m)) (4 * length m) (end m (parent m d) o)) e
+  same-end d x y e = rw e
 
   pub same-link : (d x y : ℕ) → source m d x ≡ source m d y → sourceLink m d x ≡ sourceLink m d y
-  same-link d x y e = ap (λ (o : ℕ). cond (eqb d (root m)) 8 (link m (parent m d) o)) e
+  same-link d x y e = rw e
 
   from-source : (k d n : ℕ) → Live m d n → start m d n < k → sourceStart m d n ≤ start m d n
   from-source zero d n l h = absurd (omega arith)
   from-source (suc k) d n l h = elim (ℕ-discrete (previous m d n) 0) [
     | yes z ↦ omega (arith, block l .pieces .first z .0)
-    | no z ↦ let b = before l z in omega (arith, from-source k d (previous m d n) (b .alive) (omega (arith, long (b .alive))), same-start d (previous m d n) n (b .same), long (b .alive))
+    | no z ↦
+        let b = before l z in
+        let ih = from-source k d (previous m d n) (b .alive) (omega (arith, long (b .alive), b .adjoins)) in
+        omega (arith, ih, same-start d (previous m d n) n (b .same), long (b .alive), b .adjoins)
   ]
 
   pub starts-in : {d n : ℕ} → Live m d n → sourceStart m d n ≤ start m d n
@@ -94,7 +92,11 @@ module _ (m : List ℕ) (s : Sound m) where
   to-source zero d n l h = absurd (omega (arith, block l .form .inside))
   to-source (suc k) d n l h = elim (ℕ-discrete (next m d n) 0) [
     | yes z ↦ omega (arith, block l .pieces .last z)
-    | no z ↦ let x = block l .pieces .more z in let a = after l z in omega (arith, to-source k d (next m d n) a (omega (arith, long a, x .adjoins)), same-end d (next m d n) n (x .sameSource), long a, x .adjoins)
+    | no z ↦
+        let x = block l .pieces .more z in
+        let a = after l z in
+        let ih = to-source k d (next m d n) a (omega (arith, long a, x .adjoins)) in
+        omega (arith, ih, same-end d (next m d n) n (x .sameSource), long a, x .adjoins)
   ]
 
   pub ends-in : {d n : ℕ} → Live m d n → end m d n ≤ sourceEnd m d n
@@ -107,6 +109,28 @@ module _ (m : List ℕ) (s : Sound m) where
     below : end m d x ≤ start m d y → Apart d x y
     above : end m d y ≤ start m d x → Apart d x y
 
+  flip : {d x y : ℕ} → Apart d x y → Apart d y x
+  flip (equal w) = equal (sym w)
+  flip (below w) = above w
+  flip (above w) = below w
+
+  -- x is the first piece, and q comes before y
+  past-first : {d x y q : ℕ} → Live m d x → previous m d x ≡ 0 → Before d y q → source m d x ≡ source m d q → Apart d x q → Apart d x y
+  past-first {d} l z b e (equal w) = below (omega (arith, ap (λ (o : ℕ). end m d o) w, b .adjoins))
+  past-first l z b e (below w) = below (omega (arith, long (b .alive), b .adjoins))
+  past-first {d} {x} {y} {q} l z b e (above w) =
+      absurd (omega (arith, long (b .alive), starts-in (b .alive), same-start d x q e, block l .pieces .first z .0))
+
+  -- p comes before x, and q before y
+  past-both : {d x y p q : ℕ} → Before d x p → Before d y q → Apart d p y → Apart d x q → Apart d p q → Apart d x y
+  past-both {d} a b (equal u) v w = above (omega (arith, ap (λ (o : ℕ). end m d o) u, a .adjoins))
+  past-both a b (above u) v w = above (omega (arith, long (a .alive), a .adjoins))
+  past-both {d} a b (below u) (equal v) w = below (omega (arith, ap (λ (o : ℕ). end m d o) v, b .adjoins))
+  past-both a b (below u) (below v) w = below (omega (arith, long (b .alive), b .adjoins))
+  past-both {d} a b (below u) (above v) (equal w) = equal (sym (a .forth) ∙ ap (λ (o : ℕ). next m d o) w ∙ b .forth)
+  past-both a b (below u) (above v) (below w) = absurd (omega (arith, long (b .alive), a .adjoins, b .adjoins))
+  past-both a b (below u) (above v) (above w) = absurd (omega (arith, long (a .alive), a .adjoins, b .adjoins))
+
   pub apart : (k d x y : ℕ) → Live m d x → Live m d y → source m d x ≡ source m d y → start m d x + start m d y < k → Apart d x y
   apart zero d x y l n e h = absurd (omega arith)
   apart (suc k) d x y l n e h = go (apart k d) (ℕ-discrete (previous m d x) 0) (ℕ-discrete (previous m d y) 0)
@@ -114,39 +138,22 @@ module _ (m : List ℕ) (s : Sound m) where
       Ih : Type 0
       Ih = (a b : ℕ) → Live m d a → Live m d b → source m d a ≡ source m d b → start m d a + start m d b < k → Apart d a b
 
-      -- x is the first piece, y is no first piece and q is the one before it
-      left : (q : ℕ) → sourceStart m d x ≡ start m d x → Before d y q → Apart d x q → Apart d x y
-      left q p b (equal w) = below (omega (arith, ap (λ (o : ℕ). end m d o) w, b .adjoins))
-      left q p b (below w) = below (omega (arith, long (b .alive), b .adjoins))
-      left q p b (above w) = absurd (omega (arith, long (b .alive), starts-in (b .alive), same-start d q y (b .same), same-start d x y e))
-
-      right : (q : ℕ) → sourceStart m d y ≡ start m d y → Before d x q → Apart d q y → Apart d x y
-      right q p b (equal w) = above (omega (arith, ap (λ (o : ℕ). end m d o) w, b .adjoins))
-      right q p b (above w) = above (omega (arith, long (b .alive), b .adjoins))
-      right q p b (below w) = absurd (omega (arith, long (b .alive), starts-in (b .alive), same-start d q x (b .same), same-start d x y e))
-
-      -- neither is: p before x, q before y
-      both : (p q : ℕ) → Before d x p → Before d y q → Apart d p y → Apart d x q → Apart d p q → Apart d x y
-      both p q a b (equal u) v w = above (omega (arith, ap (λ (o : ℕ). end m d o) u, a .adjoins))
-      both p q a b (above u) v w = above (omega (arith, long (a .alive), a .adjoins))
-      both p q a b (below u) (equal v) w = below (omega (arith, ap (λ (o : ℕ). end m d o) v, b .adjoins))
-      both p q a b (below u) (below v) w = below (omega (arith, long (b .alive), b .adjoins))
-      both p q a b (below u) (above v) (equal w) = equal (sym (a .forth) ∙ ap (λ (o : ℕ). next m d o) w ∙ b .forth)
-      both p q a b (below u) (above v) (below w) = absurd (omega (arith, long (b .alive), a .adjoins, b .adjoins))
-      both p q a b (below u) (above v) (above w) = absurd (omega (arith, long (a .alive), a .adjoins, b .adjoins))
-
       go : Ih → Dec (previous m d x ≡ 0) → Dec (previous m d y ≡ 0) → Apart d x y
       go ih (yes p) (yes q) = equal (sym (block l .pieces .first p .1) ∙ same-link d x y e ∙ block n .pieces .first q .1)
       go ih (yes p) (no q) =
           let b = before n q in
-          left (previous m d y) (sym (block l .pieces .first p .0)) b (ih x (previous m d y) l (b .alive) (e ∙ sym (b .same)) (omega (arith, long (b .alive), b .adjoins)))
+          let f = e ∙ sym (b .same) in
+          past-first l p b f (ih x (previous m d y) l (b .alive) f (omega (arith, long (b .alive), b .adjoins)))
       go ih (no p) (yes q) =
-          let b = before l p in
-          right (previous m d x) (sym (block n .pieces .first q .0)) b (ih (previous m d x) y (b .alive) n (b .same ∙ e) (omega (arith, long (b .alive), b .adjoins)))
+          let a = before l p in
+          let f = sym e ∙ sym (a .same) in
+          flip (past-first n q a f (ih y (previous m d x) n (a .alive) f (omega (arith, long (a .alive), a .adjoins))))
       go ih (no p) (no q) =
           let a = before l p in
           let b = before n q in
-          both (previous m d x) (previous m d y) a b
-          (ih (previous m d x) y (a .alive) n (a .same ∙ e) (omega (arith, long (a .alive), a .adjoins)))
-          (ih x (previous m d y) l (b .alive) (e ∙ sym (b .same)) (omega (arith, long (b .alive), b .adjoins)))
-          (ih (previous m d x) (previous m d y) (a .alive) (b .alive) (a .same ∙ e ∙ sym (b .same)) (omega (arith, long (a .alive), a .adjoins, long (b .alive), b .adjoins)))
+          let i = long (a .alive) in
+          let j = long (b .alive) in
+          past-both a b
+          (ih (previous m d x) y (a .alive) n (a .same ∙ e) (omega (arith, i, a .adjoins)))
+          (ih x (previous m d y) l (b .alive) (e ∙ sym (b .same)) (omega (arith, j, b .adjoins)))
+          (ih (previous m d x) (previous m d y) (a .alive) (b .alive) (a .same ∙ e ∙ sym (b .same)) (omega (arith, i, a .adjoins, j, b .adjoins)))

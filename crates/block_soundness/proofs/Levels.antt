@@ -41,7 +41,14 @@ few (suc n) l one low = elim (decLt 0 (count n l)) [
           | no e ↦ omega (arith, low x (omega (arith, a x)))
         ]),
       )
-  | no h ↦ omega (arith, few n l one (λ x c. elim (ℕ-discrete x n) [ yes e ↦ absurd (omega (arith, ap (λ (y : ℕ). count y l) e)) | no e ↦ omega (arith, low x c) ]))
+  | no h ↦
+      omega (
+        arith,
+        few n l one (λ x c. elim (ℕ-discrete x n) [
+          | yes e ↦ absurd (omega (arith, ap (λ (y : ℕ). count y l) e))
+          | no e ↦ omega (arith, low x c)
+        ]),
+      )
 ]
 
 -- ---- the table words of a partition and its ancestors

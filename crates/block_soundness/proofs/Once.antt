@@ -2,7 +2,6 @@
 use mathlib.Core.Path.{_≡_, refl, sym, ap, ap₂, _∙_, subst}
 use mathlib.Core.List.{List}
 use mathlib.Core.Logic.{_≢_}
-use mathlib.Core.Bool.{Bool, cond}
 use Prim.Native.Nat.{ℕ, zero, suc, _+_, _-_, _*_, _≤_, _<_}
 use native.Mathlib.Omega.{arith}
 use native.Mathlib.Decide.{ℕ-discrete, decLe, decLt}
@@ -12,7 +11,8 @@ use Rattle.block_memory.specs.Geometry.{tableWords, firstByte}
 use Rattle.block_memory.specs.Partition.{root, Partition, parent, number, level, start, end, used, child, link, source, next, place}
 use Rattle.block_memory.specs.Bytes.{Live, HasByte, Keeps}
 use Rattle.block_memory.specs.Sound.{Sound, sourceStart, sourceEnd, sourceLink}
-use Rattle.block_soundness.proofs.Blocks.{block, number-some, live, long, after, same-end, starts-in, ends-in, Apart, equal, below, above, apart}
+use Rattle.block_soundness.proofs.Blocks.{used-as, block, number-some, live, long, after, same-end, starts-in, ends-in}
+use Rattle.block_soundness.proofs.Blocks.{Apart, equal, below, above, apart}
 
 module _ (m : List ℕ) (s : Sound m) where
   -- ---- levels
@@ -29,19 +29,19 @@ module _ (m : List ℕ) (s : Sound m) where
   -- ---- the source of a block of another partition than the root
 
   pub source-start : (d n : ℕ) → d ≢ root m → sourceStart m d n ≡ start m (parent m d) (source m d n)
-  source-start d n h = ap (λ (t : Bool). cond t (firstByte (length m)) (start m (parent m d) (source m d n))) (ne-eqb d (root m) h)
+  source-start d n h = rw (ne-eqb d (root m) h)
 
   pub source-end : (d n : ℕ) → d ≢ root m → sourceEnd m d n ≡ end m (parent m d) (source m d n)
-  source-end d n h = ap (λ (t : Bool). cond t (4 * length m) (end m (parent m d) (source m d n))) (ne-eqb d (root m) h)
+  source-end d n h = rw (ne-eqb d (root m) h)
 
   pub source-link : (d n : ℕ) → d ≢ root m → sourceLink m d n ≡ link m (parent m d) (source m d n)
-  source-link d n h = ap (λ (t : Bool). cond t 8 (link m (parent m d) (source m d n))) (ne-eqb d (root m) h)
+  source-link d n h = rw (ne-eqb d (root m) h)
 
   pub root-start : (d n : ℕ) → d ≡ root m → sourceStart m d n ≡ firstByte (length m)
-  root-start d n e = ap (λ (t : Bool). cond t (firstByte (length m)) (start m (parent m d) (source m d n))) (eq-eqb d (root m) e)
+  root-start d n e = rw (eq-eqb d (root m) e)
 
   pub root-end : (d n : ℕ) → d ≡ root m → sourceEnd m d n ≡ 4 * length m
-  root-end d n e = ap (λ (t : Bool). cond t (4 * length m) (end m (parent m d) (source m d n))) (eq-eqb d (root m) e)
+  root-end d n e = rw (eq-eqb d (root m) e)
 
   pub record Up (d n : ℕ) : Type 0 where
     pub alive : Live m (parent m d) (source m d n)
@@ -56,7 +56,7 @@ module _ (m : List ℕ) (s : Sound m) where
       let o = block m s l .sources .ofOther h in
       let b = s .descriptors d (l .partition) .ofOther h in
       record {
-        alive = record { partition = b .parentListed; block = λ z. omega (arith, z, o .lent) };
+        alive = used-as (b .parentListed) (o .lent);
         lent = o .lent;
         toThis = o .toThis;
         low = omega (arith, starts-in m s l, source-start d n h);
@@ -98,7 +98,8 @@ module _ (m : List ℕ) (s : Sound m) where
       let g = other e (omega arith) in
       let u = up (a .live) h in
       let v = up (b .live) g in
-      let (p, q) = equal-level k (parent m d) (parent m e) (source m d n) (source m e o) x (omega (arith, u .step)) (omega (arith, v .step)) (up-byte a h) (up-byte b g) in
+      let (p, q) = equal-level k (parent m d) (parent m e) (source m d n) (source m e o) x
+      (omega (arith, u .step)) (omega (arith, v .step)) (up-byte a h) (up-byte b g) in
       let c : number m d ≡ number m e = sym (u .toThis) ∙ ap₂ (λ (y z : ℕ). child m y z) p q ∙ v .toThis in
       in-one a b (same-child d e (a .live .partition) (b .live .partition) h g p c) q
 
@@ -144,7 +145,7 @@ module _ (m : List ℕ) (s : Sound m) where
           let t = after m s l z in
           ih t (omega (arith, f .adjoins)) (omega (arith, same-end m s d (next m d n) n (f .sameSource))) (omega (arith, long m s t, f .adjoins))
 
-  first-in-root : Live m (root m) 8
+  pub first-in-root : Live m (root m) 8
   first-in-root = record { partition = s .table .rootListed; block = s .structures (root m) (s .table .rootListed) .ofRoot refl .block }
 
   in-root : (x : ℕ) → firstByte (length m) ≤ x → x < 4 * length m → (o : ℕ) × HasByte m (root m) o x
@@ -153,23 +154,41 @@ module _ (m : List ℕ) (s : Sound m) where
       let f = block m s l .pieces .first (s .structures (root m) (s .table .rootListed) .ofRoot refl .first) in
       along (suc x) (root m) 8 x l (omega (arith, f .0, root-start (root m) 8 refl)) (omega (arith, root-end (root m) 8 refl)) (omega arith)
 
-  -- from a block that is lent to the child that has it
+  -- a block of d that is lent: t is the child that has it, f its first piece there
+  pub record Lends (d n t f : ℕ) : Type 0 where
+    pub listed : Partition m t
+    pub notRoot : t ≢ root m
+    pub parentIs : parent m t ≡ d
+    pub first : Live m t f
+    pub starts : start m t f ≡ start m d n
+    pub ends : sourceEnd m t f ≡ end m d n
+
+  pub lends : {d n : ℕ} → Live m d n → used m d n ≡ 2 → Lends d n (place m d (child m d n)) (link m d n)
+  lends {d} {n} l z =
+      let u = block m s l .uses .use2 z in
+      let t = place m d (child m d n) in
+      let f = link m d n in
+      let held = block m s (used-as (l .partition) (u .toChild)) .uses .use3 (u .toChild) in
+      let p : parent m t ≡ d = held .parentWord in
+      let top = s .descriptors (root m) (s .table .rootListed) .ofRoot refl .noParent in
+      let not-root : t ≢ root m = λ e. omega (arith, l .partition .some, p, ap (λ (y : ℕ). parent m y) e, top) in
+      let first : Live m t f = live m s t f 6 (held .listed) (omega arith) (λ w. omega (arith, w, u .fromThis, number-some m s l)) in
+      record {
+        listed = held .listed;
+        notRoot = not-root;
+        parentIs = p;
+        first = first;
+        starts = block m s first .pieces .first (u .first) .0 ∙ source-start t f not-root ∙ ap₂ (λ (y w : ℕ). start m y w) p (u .fromThis);
+        ends = source-end t f not-root ∙ ap₂ (λ (y w : ℕ). end m y w) p (u .fromThis);
+      }
+
+  -- so a byte of it is in a block of the child
   down : {d n x : ℕ} → HasByte m d n x → used m d n ≡ 2 → (e : ℕ) × (o : ℕ) × HasByte m e o x × (level m e ≡ level m d + 1)
   down {d} {n} {x} b z =
-      let l = b .live in
-      let u = block m s l .uses .use2 z in
-      let c = child m d n in
-      let t = place m d c in
-      let stands : Live m d c = record { partition = l .partition; block = λ w. omega (arith, w, u .toChild) } in
-      let held = block m s stands .uses .use3 (u .toChild) in
-      let n-some = number-some m s l in
-      let first : Live m t (link m d n) = live m s t (link m d n) 6 (held .listed) (omega arith) (λ w. omega (arith, w, u .fromThis)) in
-      let not-root : t ≢ root m = λ e. omega (arith, l .partition .some, held .parentWord, ap (λ (y : ℕ). parent m y) e, s .descriptors (root m) (s .table .rootListed) .ofRoot refl .noParent) in
-      let p : parent m t ≡ d = held .parentWord in
-      let at = block m s first .pieces .first (u .first) .0 ∙ source-start t (link m d n) not-root ∙ ap₂ (λ (y w : ℕ). start m y w) p (u .fromThis) in
-      let up-to = source-end t (link m d n) not-root ∙ ap₂ (λ (y w : ℕ). end m y w) p (u .fromThis) in
-      let (o, h) = along (suc x) t (link m d n) x first (omega (arith, at, b .from)) (omega (arith, up-to, b .upTo)) (omega arith) in
-      (t, o, h, s .descriptors t (held .listed) .ofOther not-root .below ∙ ap (λ (y : ℕ). level m y + 1) p)
+      let h = lends (b .live) z in
+      let t = place m d (child m d n) in
+      let (o, k) = along (suc x) t (link m d n) x (h .first) (omega (arith, h .starts, b .from)) (omega (arith, h .ends, b .upTo)) (omega arith) in
+      (t, o, k, s .descriptors t (h .listed) .ofOther (h .notRoot) .below ∙ ap (λ (y : ℕ). level m y + 1) (h .parentIs))
 
   pub level-few : (d : ℕ) → Partition m d → level m d < suc (tableWords (length m))
   level-few d p = elim (ℕ-discrete d (root m)) [ yes e ↦ omega (arith, root-level d e) | no n ↦ omega (arith, s .descriptors d p .ofOther n .few) ]

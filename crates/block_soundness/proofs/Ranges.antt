@@ -8,7 +8,7 @@ use native.Mathlib.Omega.{arith}
 use lib.Dec.{leb}
 use lib.ListN.{length}
 use Rattle.walk.specs.Lists.{count}
-use Rattle.walk.specs.Reflect.{Tells, both, eq?, le?}
+use Rattle.walk.specs.Reflect.{Tells, via, both, eq?, le?}
 use Rattle.walk.specs.Finite.{from, from-in, in-from}
 use Rattle.block_memory.specs.Geometry.{kib, leastKib, mostKib, permitted, tableWords}
 use Rattle.block_memory.specs.Partition.{Partition, entry, structure, Has}
@@ -41,10 +41,7 @@ pub record Permitted (w : ℕ) : Type 0 where
 
 pub permitted? : (w : ℕ) → Tells (permitted w) (Permitted w)
 unfolding permitted
-permitted? w = (
-  (λ e. let ((a, b), c) = both {P = (w / kib * kib ≡ w) × (leastKib ≤ w / kib)} {Q = w / kib ≤ mostKib} (both eq? le?) le? .0 e in record { whole = a; least = b; most = c }),
-  (λ p. both {P = (w / kib * kib ≡ w) × (leastKib ≤ w / kib)} {Q = w / kib ≤ mostKib} (both eq? le?) le? .1 ((p .whole, p .least), p .most)),
-)
+permitted? w = via (both (both eq? le?) le?) (λ ((a, b), c). record { whole = a; least = b; most = c }) (λ p. ((p .whole, p .least), p .most))
 
 -- the table has a word for each partition
 pub table-has : (m : List ℕ) → Permitted (length m) → (d : ℕ) → Partition m d → d / 32 < tableWords (length m)

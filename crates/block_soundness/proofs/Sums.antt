@@ -1,8 +1,8 @@
 -- Sums over lists of numbers, and how many numbers lie between two. Assumes nothing.
-use mathlib.Core.Path.{_≡_, refl, sym, ap, _∙_}
+use mathlib.Core.Path.{_≡_, refl, sym, ap}
 use mathlib.Core.List.{List, [], _∷_}
 use mathlib.Core.Logic.{_≢_}
-use mathlib.Core.Bool.{Bool, cond, _&&_}
+use mathlib.Core.Bool.{cond, _&&_}
 use Prim.Native.Nat.{ℕ, zero, suc, min, max, _+_, _-_, _≤_, _<_}
 use native.Mathlib.Omega.{arith}
 use native.Mathlib.Decide.{ℕ-discrete, decLe, decLt}
@@ -52,16 +52,16 @@ between a b x = cond (leb a x && ltb x b) 1 0
 
 pub between-in : (a b x : ℕ) → a ≤ x → x < b → between a b x ≡ 1
 unfolding between
-between-in a b x h k = ap (λ (t : Bool). cond (t && ltb x b) 1 0) (le-leb a x h) ∙ ap (λ (t : Bool). cond t 1 0) (lt-ltb x b k)
+between-in a b x h k = rw (le-leb a x h, lt-ltb x b k)
 
 pub between-out : (a b x : ℕ) → (a ≤ x → x < b → ⊥) → between a b x ≡ 0
 unfolding between
 between-out a b x h = elim (decLe a x) [
   | yes p ↦ elim (decLt x b) [
     | yes q ↦ absurd (h p q)
-    | no q ↦ ap (λ (t : Bool). cond (t && ltb x b) 1 0) (le-leb a x p) ∙ ap (λ (t : Bool). cond t 1 0) (le-ltb x b (omega arith))
+    | no q ↦ rw (le-leb a x p, le-ltb x b (omega arith))
   ]
-  | no p ↦ ap (λ (t : Bool). cond (t && ltb x b) 1 0) (lt-leb a x (omega arith))
+  | no p ↦ rw (lt-leb a x (omega arith))
 ]
 
 run-between : (n i a b : ℕ) → sumOf (between a b) (from n i) ≡ min b (i + n) - max a i

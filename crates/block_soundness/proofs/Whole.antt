@@ -46,6 +46,7 @@ module _ (m : List ℕ) where
   pub sound? : Tells (soundTest m) (Sound m)
   unfolding soundTest
   sound? =
-      via (both (both (header? m) (partition? m)) (all? (from (tableWords (length m)) 0) (below (tableWords (length m))) (λ j. unless eq? (both eq? (whole? m _)))))
+      let w = tableWords (length m) in
+      via (both (both (header? m) (partition? m)) (all? (from w 0) (below w) (λ j. unless eq? (both eq? (whole? m _)))))
       (λ ((h, r), l). parts (h, r, l))
       (λ s. ((s .header, s .table .rootListed), λ j i n. (s .table .words j i n, whole s _ (listed s j i n))))

@@ -14,11 +14,11 @@ use Rattle.block_soundness.proofs.Once.{up, same-child, source-start, source-en
 use Rattle.block_rules.specs.Effects.{disable, giveBack, freeSlot, removeFrom}
 use Rattle.block_rules.proofs.Frame.{Placed, Frame}
 use Rattle.block_rules.proofs.Slots.{Trail, trail, next-trail, next-put, next-other, next-at, here}
-use Rattle.block_rules.proofs.Keep.{this-or, Same}
+use Rattle.block_rules.proofs.Keep.{this-or, Same, FirstStays}
 use Rattle.block_rules.proofs.Ground.{SourceStays, Beside, given-back}
 use Rattle.block_rules.proofs.Grown.{KernelStays, words8}
 use Rattle.block_rules.proofs.Framed.{placed, grown, framed}
-use Rattle.block_rules.proofs.Kept.{FirstStays, first-piece, still, entries-off}
+use Rattle.block_rules.proofs.Kept.{first-piece, unwritten-stays, entries-off}
 use Rattle.block_rules.proofs.Child.{ChildOf, child-of}
 use Rattle.block_rules.proofs.Freed.{Freed, free}
 
@@ -132,7 +132,7 @@ module _ (m : List ℕ) (s : Sound m) (d c b : ℕ) (p : Partition m d) (stands 
       (λ (y, z, w, k). omega (arith, lends, ap₂ (λ (x w : ℕ). used m x w) y z))
 
   -- what a block names
-  first : (u o : ℕ) → Live m u o → ¬ ((u ≡ d) × (o ≡ b)) → FirstStays m now s frame kernel u o
+  first : (u o : ℕ) → Live m u o → ¬ ((u ≡ d) × (o ≡ b)) → FirstStays m now u o
   first u o l a e =
       let f = first-piece m s u o l e in
       let h = block m s l .uses .use2 e in
@@ -184,7 +184,8 @@ module _ (m : List ℕ) (s : Sound m) (d c b : ℕ) (p : Partition m d) (stands 
 
   slots : (u o : ℕ) → Partition m u → Has m u o → Slot now u o
   slots u o v i = this-or (Slot now) t n u o child-slot (λ an. this-or (Slot now) d b u o back-slot (λ ab.
-      still m now s frame kernel u o v i (λ g j. others u o g v j an (λ (y, z, w, x). ab (y, z))) (λ l. (first u o l ab, lent u o l an, beside u o l))))
+      unwritten-stays m now s frame kernel u o v i (λ g j. others u o g v j an (λ (y, z, w, x). ab (y, z)))
+      (λ l. (first u o l ab, lent u o l an, beside u o l .prior, beside u o l .later))))
 
   pub remove-sound : Sound (removeFrom m d c b)
   unfolding removeFrom
