@@ -41,7 +41,7 @@ module _ (m : List ℕ) (s : Sound m) where
   p = s .header .currentWord
 
   -- a partition argument that passes
-  whose : (c : ℕ) → (not (eqb c 0) && not (eqb (used m d c) 3)) ≡ false → c ≢ 0 → used m d c ≡ 3
+  pub whose : (c : ℕ) → (not (eqb c 0) && not (eqb (used m d c) 3)) ≡ false → c ≢ 0 → used m d c ≡ 3
   whose c e h = is _ _ (rw (ne-eqb c 0 h) at e)
 
   -- two blocks of which one is the other's next

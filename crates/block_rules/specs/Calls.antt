@@ -68,10 +68,14 @@ module _ (m : List ℕ) where
   result formatAll = 0
   result (serve s) = resultOf (current m) s
 
-  -- ".. and beside it six words: number, start, end, rights, use, child", n being the number of the call's refusal or 0
+  -- ".. and beside it six words: number, start, end, rights, use, child", of block b of t; b may be 0, and then they are 0
+  abbrev pub sixWords : ℕ → ℕ → List ℕ
+  sixWords t b = b ∷ start m t b ∷ end m t b ∷ rights m t b ∷ used m t b ∷ child m t b ∷ []
+
+  -- n is the number of the call's refusal or 0
   unfoldable pub toldOf : ℕ → Option (ℕ × ℕ) → List ℕ
   toldOf n none = []
-  toldOf n (some (t, b)) = pass n (b ∷ start m t b ∷ end m t b ∷ rights m t b ∷ used m t b ∷ child m t b ∷ []) noBlock
+  toldOf n (some (t, b)) = pass n (sixWords t b) noBlock
 
   unfoldable pub told : Call → List ℕ
   told formatAll = []
