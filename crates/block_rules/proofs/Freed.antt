@@ -8,7 +8,7 @@ use lib.ListN.{replicate, getD-replicate}
 use Rattle.block_memory.specs.Partition.{Partition, entry, Has, field}
 use Rattle.block_rules.specs.Effects.{disable, freeSlot}
 use Rattle.block_rules.proofs.Frame.{Placed}
-use Rattle.block_rules.proofs.Slots.{Trail, next-trail, next-put, next-other, next-at, here, off-trail, off-fields, off-entries}
+use Rattle.block_rules.proofs.Trail.{Trail, next-trail, next-put, next-other, next-at, here, off-trail, off-fields, off-entries}
 use Rattle.block_rules.proofs.Keep.{Same}
 
 -- in w slot n of d is free and not enabled; every other field is as in m₁

@@ -15,7 +15,7 @@ use Rattle.block_soundness.proofs.Records.{Record, desc, struct, struct-is, not
 use Rattle.block_rules.specs.Effects.{giveBack}
 use Rattle.block_rules.proofs.Writes.{Write, write}
 use Rattle.block_rules.proofs.Frame.{Placed}
-use Rattle.block_rules.proofs.Slots.{inStructure}
+use Rattle.block_rules.proofs.SlotWrite.{inStructure}
 use Rattle.block_rules.proofs.Leaving.{backWords}
 use Rattle.block_rules.proofs.Wiped.{AsIn, structure-in}
 

@@ -21,7 +21,8 @@ use Rattle.block_soundness.proofs.Records.{Record, desc, struct, words, base, V
 use Rattle.block_rules.specs.Effects.{takeAs}
 use Rattle.block_rules.proofs.Frame.{Placed, structure-stays}
 use Rattle.block_rules.proofs.Disabled.{FewerEntries}
-use Rattle.block_rules.proofs.Slots.{Trail, trail, inStructure}
+use Rattle.block_rules.proofs.SlotWrite.{inStructure}
+use Rattle.block_rules.proofs.Trail.{Trail, trail}
 use Rattle.block_rules.proofs.Keep.{Same}
 use Rattle.block_rules.proofs.Grown.{Grown}
 use Rattle.block_rules.proofs.Framed.{placed}

@@ -5,7 +5,6 @@ pub mod EntryWrite
 pub mod CurrentWrite
 pub mod Disabled
 pub mod Trail
-pub mod Slots
 pub mod Keep
 pub mod Ground
 pub mod Grown

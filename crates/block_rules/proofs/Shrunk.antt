@@ -19,7 +19,7 @@ use Rattle.block_soundness.proofs.Blocks.{block, field-has, number-some, before
 use Rattle.block_soundness.proofs.Once.{up}
 use Rattle.block_soundness.proofs.Levels.{same-word}
 use Rattle.block_soundness.proofs.Records.{Record, desc, struct}
-use Rattle.block_rules.proofs.Slots.{inStructure}
+use Rattle.block_rules.proofs.SlotWrite.{inStructure}
 use Rattle.block_rules.proofs.Keep.{Same}
 use Rattle.block_rules.proofs.Ground.{root-now, header-on, Words8, descriptor-on, Held, structure-on, root-structure-on, Named, SourceStays, Beside}
 use Rattle.block_rules.proofs.Ground.{slot-on, given-back, free-on}

@@ -8,7 +8,7 @@ use lib.ListN.{getD}
 use Rattle.block_memory.specs.Partition.{Partition, entry, Has, field}
 use Rattle.block_rules.specs.Effects.{disable, takeAs}
 use Rattle.block_rules.proofs.Frame.{Placed}
-use Rattle.block_rules.proofs.Slots.{Trail, next-trail, next-put, next-other, next-at, here, off-trail, off-fields, off-entries}
+use Rattle.block_rules.proofs.Trail.{Trail, next-trail, next-put, next-other, next-at, here, off-trail, off-fields, off-entries}
 use Rattle.block_rules.proofs.Keep.{Same}
 
 -- in w block b of d has the words `three` from word 3 on and isn't enabled; every other field is as in m₁

@@ -14,7 +14,7 @@ use Rattle.block_memory.proofs.Lowest.{free-number}
 use Rattle.block_soundness.proofs.Blocks.{block, field-has}
 use Rattle.block_rules.specs.Effects.{takeAs, addTo}
 use Rattle.block_rules.proofs.Frame.{Placed, Frame, root-same}
-use Rattle.block_rules.proofs.Slots.{trail, next-trail, next-other, next-at}
+use Rattle.block_rules.proofs.Trail.{trail, next-trail, next-other, next-at}
 use Rattle.block_rules.proofs.Keep.{this-or, Same}
 use Rattle.block_rules.proofs.Grown.{KernelStays}
 use Rattle.block_rules.proofs.Framed.{placed, grown, framed, parent-same, number-same}

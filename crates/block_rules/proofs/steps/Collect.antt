@@ -21,7 +21,7 @@ use Rattle.block_soundness.proofs.Records.{standing-struct, in-bytes, struct-in
 use Rattle.block_rules.specs.Effects.{giveBack, collectFrom}
 use Rattle.block_rules.proofs.Writes.{Write, write, write-one}
 use Rattle.block_rules.proofs.Frame.{Placed}
-use Rattle.block_rules.proofs.Slots.{inStructure}
+use Rattle.block_rules.proofs.SlotWrite.{inStructure}
 use Rattle.block_rules.proofs.Framed.{placed}
 use Rattle.block_rules.proofs.Leaving.{backWords, Back, lent, holdsDescriptor, holdsStructure, Leaving}
 use Rattle.block_rules.proofs.Shrunk.{Shrunk, shrunk-sound}

@@ -24,7 +24,7 @@ use Rattle.block_rules.specs.Effects.{ofChild, goesWith, wipePartition, 
 use Rattle.block_rules.specs.Deleted as Specs
 use Rattle.block_rules.specs.Deleted.{OfChild, Deleted}
 use Rattle.block_rules.proofs.Frame.{Placed}
-use Rattle.block_rules.proofs.Slots.{inStructure}
+use Rattle.block_rules.proofs.SlotWrite.{inStructure}
 use Rattle.block_rules.proofs.Framed.{placed}
 use Rattle.block_rules.proofs.Child.{ChildOf, child-of}
 use Rattle.block_rules.proofs.Leaving.{backWords, Back, lent, holdsDescriptor, holdsStructure, Leaving, back-some, kid-back}

@@ -20,7 +20,7 @@ use Rattle.block_memory.proofs.Lowest.{free-structure}
 use Rattle.block_soundness.proofs.Ranges.{table-has}
 use Rattle.block_soundness.proofs.Records.{Record, desc, words, base, Valid, low, layout, named-own, named-child}
 use Rattle.block_rules.specs.Effects.{prepareFor}
-use Rattle.block_rules.proofs.Slots.{inStructure}
+use Rattle.block_rules.proofs.SlotWrite.{inStructure}
 use Rattle.block_rules.proofs.Keep.{this-or, Same, named-same}
 use Rattle.block_rules.proofs.Ground.{root-now, parent-on, number-on}
 use Rattle.block_rules.proofs.Grown.{named-partition, words8}

@@ -13,7 +13,7 @@ use Rattle.block_soundness.proofs.Blocks.{block, field-has, number-some, before
 use Rattle.block_soundness.proofs.Once.{up, same-child, source-start, source-end}
 use Rattle.block_rules.specs.Effects.{disable, giveBack, freeSlot, removeFrom}
 use Rattle.block_rules.proofs.Frame.{Placed, Frame}
-use Rattle.block_rules.proofs.Slots.{Trail, trail, next-trail, next-put, next-other, next-at, here}
+use Rattle.block_rules.proofs.Trail.{Trail, trail, next-trail, next-put, next-other, next-at, here}
 use Rattle.block_rules.proofs.Keep.{this-or, Same, FirstStays}
 use Rattle.block_rules.proofs.Ground.{SourceStays, Beside, given-back}
 use Rattle.block_rules.proofs.Grown.{KernelStays, words8}
