@@ -21,6 +21,7 @@ use Rattle.common.proofs.Overwrite.{length-overwrite, overwrite-before, overwri
 use Rattle.walk.specs.Walk.{zeros-at}
 use Rattle.block_memory.proofs.Lookups.{entry-at, structure-at, field-at}
 use Rattle.block_soundness.proofs.Ranges.{Permitted, permitted?, entry-range, structure-range}
+use Rattle.block_rules.proofs.Keep.{block-slot, wiped-slot}
 use Rattle.block_rules.proofs.Uses.{in-hand}
 
 module _ (w : ℕ) (per : Permitted w) where
@@ -157,39 +158,36 @@ module _ (w : ℕ) (per : Permitted w) where
   is-root x y = ap (λ (b : Bool). cond b x y) (eq-eqb d (root m) (sym rt))
 
   starting : Slot m d 8
-  starting = record {
-    free = λ z. absurd (omega (arith, z, block-word 3 (omega arith)));
-    taken = λ z. record {
-      form = record {
-        long = omega (arith, block-word 0 (omega arith), block-word 1 (omega arith), large);
-        inside = omega (arith, block-word 1 (omega arith), size);
-        fewRights = omega (arith, block-word 2 (omega arith));
-        known = omega (arith, block-word 3 (omega arith));
-      };
-      uses = in-hand m d 8 (block-word 3 (omega arith))
-          (record { noChild = block-zero 4 (omega arith) (omega arith); noLink = block-zero 5 (omega arith) (omega arith) });
-      sources = record {
-        ofRoot = λ e. record {
-          noSource = ap (λ (x : ℕ). field m x 8 6) rt ∙ block-zero 6 (omega arith) (omega arith);
-          all = ap (λ (x : ℕ). field m x 8 2) rt ∙ block-word 2 (omega arith);
-        };
-        ofOther = λ e. absurd (e (sym rt));
-      };
-      pieces = record {
-        first = λ e. (block-word 0 (omega arith) ∙ sym (is-root _ _ ∙ ap firstByte size), is-root _ _);
-        later = λ e. absurd (e (block-zero 7 (omega arith) (omega arith)));
-        last = λ e. block-word 1 (omega arith) ∙ sym (is-root _ _ ∙ ap (λ (x : ℕ). 4 * x) size);
-        more = λ e. absurd (e (block-zero 8 (omega arith) (omega arith)));
-      };
+  starting = block-slot (λ z. omega (arith, z, block-word 3 (omega arith))) (record {
+    form = record {
+      long = omega (arith, block-word 0 (omega arith), block-word 1 (omega arith), large);
+      inside = omega (arith, block-word 1 (omega arith), size);
+      fewRights = omega (arith, block-word 2 (omega arith));
+      known = omega (arith, block-word 3 (omega arith));
     };
-  }
+    uses = in-hand (block-word 3 (omega arith))
+        (record { noChild = block-zero 4 (omega arith) (omega arith); noLink = block-zero 5 (omega arith) (omega arith) });
+    sources = record {
+      ofRoot = λ e. record {
+        noSource = ap (λ (x : ℕ). field m x 8 6) rt ∙ block-zero 6 (omega arith) (omega arith);
+        all = ap (λ (x : ℕ). field m x 8 2) rt ∙ block-word 2 (omega arith);
+      };
+      ofOther = λ e. absurd (e (sym rt));
+    };
+    pieces = record {
+      first = λ e. (block-word 0 (omega arith) ∙ sym (is-root _ _ ∙ ap firstByte size), is-root _ _);
+      later = λ e. absurd (e (block-zero 7 (omega arith) (omega arith)));
+      last = λ e. block-word 1 (omega arith) ∙ sym (is-root _ _ ∙ ap (λ (x : ℕ). 4 * x) size);
+      more = λ e. absurd (e (block-zero 8 (omega arith) (omega arith)));
+    };
+  })
 
   slots : (n : ℕ) → Has m d n → Slot m d n
   slots n h =
       let e = structure-rest (n / 8) h in
       elim (ℕ-discrete n 8) [
         | yes q ↦ subst (Slot m d) (sym q) starting
-        | no q ↦ record { free = λ z g i. free-slot n g e q i; taken = λ z. absurd (z (free-slot n 3 e q (omega arith))) }
+        | no q ↦ wiped-slot (λ g i. free-slot n g e q i)
       ]
 
   desc-zero : (i : ℕ) → i < 8 → word m (d + i) ≡ 0

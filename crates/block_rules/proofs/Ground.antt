@@ -14,7 +14,8 @@ use Rattle.block_memory.specs.Partition.{place, named}
 use Rattle.block_memory.specs.Bytes.{Live}
 use Rattle.block_memory.specs.Sound.{Sound, Header, Descriptor, StandsIn, Structure, RootStructure, Slot, Use, Source, Pieces}
 use Rattle.block_soundness.proofs.Blocks.{block}
-use Rattle.block_rules.proofs.Keep.{Front, Back, pieces-of, in-hand, block-slot, Same, FirstStays, PriorStays, LaterStays, Was}
+use Rattle.block_rules.proofs.Keep.{Front, Back, pieces-of, block-slot, wiped-slot, Same, FirstStays, PriorStays, LaterStays, Was}
+use Rattle.block_rules.proofs.Uses.{in-hand}
 use Rattle.block_rules.proofs.Keep.{form-kept, use-kept, source-from, front-from, back-from}
 
 module _ (m m' : List ℕ) (s : Sound m) (size : length m' ≡ length m) where
@@ -223,13 +224,10 @@ module _ (m m' : List ℕ) (s : Sound m) (size : length m' ≡ length m) where
     pub given-back : Words8 d → ((g : ℕ) → g < 9 → ¬ ((3 ≤ g) × (g < 6)) → Same m m' d n g) → used m' d n ≡ 1 → child m' d n ≡ 0 → link m' d n ≡ 0
         → SourceStays d n → Beside → Slot m' d n
     given-back w same hand noChild noLink lent by =
-        turned w same (λ z. omega (arith, z, hand)) (omega (arith, hand)) (in-hand hand noChild noLink) lent by
+        turned w same (λ z. omega (arith, z, hand)) (omega (arith, hand)) (in-hand hand (record { noChild = noChild; noLink = noLink })) lent by
 
   pub free-on : (d n : ℕ) → Partition m d → Has m d n → used m d n ≡ 0 → ((g : ℕ) → g < 9 → Same m m' d n g) → Slot m' d n
-  free-on d n p h e same = record {
-    free = λ z g i. same g i ∙ s .slots d n p h .free e g i;
-    taken = λ z. absurd (z (same 3 (omega arith) ∙ e));
-  }
+  free-on d n p h e same = wiped-slot (λ g i. same g i ∙ s .slots d n p h .free e g i)
 
   -- a slot whose nine words stay, free or a block
   pub still-on : (d n : ℕ) → Partition m d → Has m d n → Words8 d → ((g : ℕ) → g < 9 → Same m m' d n g)

@@ -35,15 +35,6 @@ Back m d n = (next m d n ≡ 0 → end m d n ≡ sourceEnd m d n) × (next m d n
 pub pieces-of : {m : List ℕ} {d n : ℕ} → Front m d n → Back m d n → Pieces m d n
 pieces-of f b = record { first = f .0; later = f .1; last = b .0; more = b .1 }
 
--- sentence 7 of a block in hand
-pub in-hand : {m : List ℕ} {d n : ℕ} → used m d n ≡ 1 → child m d n ≡ 0 → link m d n ≡ 0 → Use m d n
-in-hand hand noChild noLink = record {
-  use1 = λ e. record { noChild = noChild; noLink = noLink };
-  use2 = λ e. absurd (omega (arith, e, hand));
-  use3 = λ e. absurd (omega (arith, e, hand));
-  use4 = λ e. absurd (omega (arith, e, hand));
-}
-
 -- a slot that has a block, and one that is wiped
 pub block-slot : {m : List ℕ} {d n : ℕ} → used m d n ≢ 0 → Block m d n → Slot m d n
 block-slot some b = record { free = λ z. absurd (some z); taken = λ z. b }

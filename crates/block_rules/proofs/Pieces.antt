@@ -15,7 +15,8 @@ use Rattle.block_soundness.proofs.Once.{up, first-in-root}
 use Rattle.block_rules.proofs.Frame.{Frame}
 use Rattle.block_rules.proofs.Chain.{Chain}
 use Rattle.block_rules.proofs.Trail.{Trail}
-use Rattle.block_rules.proofs.Keep.{this-or, Back, pieces-of, in-hand, block-slot, Same, FirstStays, PriorStays, LaterStays, Was}
+use Rattle.block_rules.proofs.Keep.{this-or, Back, pieces-of, block-slot, Same, FirstStays, PriorStays, LaterStays, Was}
+use Rattle.block_rules.proofs.Uses.{in-hand}
 use Rattle.block_rules.proofs.Ground.{SourceStays}
 use Rattle.block_rules.proofs.Grown.{KernelStays}
 use Rattle.block_rules.proofs.Framed.{framed}
@@ -150,8 +151,8 @@ module _ {m m' : List ℕ} {s : Sound m} {d l h a b : ℕ} (c : Chain m s d l h 
           fewRights = omega (arith, e2, o .form .fewRights);
           known = omega (arith, e3);
         };
-        uses = in-hand e3 (k 4 (omega arith) ∙ o .uses .use1 (c .hand) .noChild)
-            (k 5 (omega arith) ∙ o .uses .use1 (c .hand) .noLink);
+        uses = let u = o .uses .use1 (c .hand) in
+            in-hand e3 (record { noChild = k 4 (omega arith) ∙ u .noChild; noLink = k 5 (omega arith) ∙ u .noLink });
         sources = source-stays m m' s frame kernel x l e6 (lent x) e2;
         pieces = pieces-of
             (front-stays m m' s frame kernel x l e6 (lent x) refl e0 (k 7 (omega arith))

@@ -6,7 +6,7 @@ use native.Mathlib.Omega.{arith}
 use Rattle.block_memory.specs.Partition.{used}
 use Rattle.block_memory.specs.Sound.{InHand, Lent, HoldsDescriptor, HoldsStructure, Use}
 
-module _ (m : List ℕ) (d n : ℕ) where
+module _ {m : List ℕ} {d n : ℕ} where
   pub in-hand : used m d n ≡ 1 → InHand m d n → Use m d n
   in-hand e h = record { use1 = λ z. h; use2 = λ z. absurd (omega arith); use3 = λ z. absurd (omega arith); use4 = λ z. absurd (omega arith) }
 

@@ -15,7 +15,7 @@ use Rattle.block_soundness.proofs.Blocks.{block, field-has}
 use Rattle.block_rules.specs.Effects.{takeAs, addTo}
 use Rattle.block_rules.proofs.Frame.{Placed, Frame, root-same}
 use Rattle.block_rules.proofs.Trail.{trail, next-trail, next-other, next-at}
-use Rattle.block_rules.proofs.Keep.{this-or, Same}
+use Rattle.block_rules.proofs.Keep.{this-or, block-slot, Same}
 use Rattle.block_rules.proofs.Grown.{KernelStays}
 use Rattle.block_rules.proofs.Framed.{placed, grown, framed, parent-same, number-same}
 use Rattle.block_rules.proofs.Kept.{entries-off}
@@ -100,37 +100,34 @@ module _ (m : List ℕ) (s : Sound m) (d c b r : ℕ) (p : Partition m d) (stand
   new-slot : Slot now t n
   new-slot =
       let o = block m s live-b in
-      record {
-        free = λ z. absurd (omega (arith, z, is-new 3 (omega arith)));
-        taken = λ z. record {
-          form = record {
-            long = omega (arith, is-new 0 (omega arith), is-new 1 (omega arith), o .form .long);
-            inside = omega (arith, is-new 1 (omega arith), o .form .inside, frame .size);
-            fewRights = omega (arith, is-new 2 (omega arith), o .form .fewRights, and-le-r r (rights m d b), fewer);
-            known = omega (arith, is-new 3 (omega arith));
-          };
-          uses = in-hand now t n (is-new 3 (omega arith)) (record { noChild = is-new 4 (omega arith); noLink = is-new 5 (omega arith) });
-          sources = record {
-            ofRoot = λ e. absurd (not-root-now e);
-            ofOther = λ e. record {
-              lent = of-source 3 ∙ taken .changed 0 (omega arith);
-              toThis = of-source 4 ∙ taken .changed 1 (omega arith) ∙ sym (number-same m now s frame t (kid .listed) ∙ kid .numberWord);
-              noMore =
-                  ap₂ (λ (x y : ℕ). bitAnd x y) (is-new 2 (omega arith)) (of-source 2 ∙ b-same 2 (omega arith) (λ (y, w). omega arith))
-                  ∙ fewer ∙ sym (is-new 2 (omega arith));
-            };
-          };
-          pieces = record {
-            first = λ e. (
-              is-new 0 (omega arith) ∙ sym (not-root t (root now) _ _ not-root-now ∙ of-source 0 ∙ b-same 0 (omega arith) (λ (y, w). omega arith)),
-              not-root t (root now) _ _ not-root-now ∙ of-source 5 ∙ taken .changed 2 (omega arith),
-            );
-            later = λ e. absurd (e (is-new 7 (omega arith)));
-            last = λ e. is-new 1 (omega arith) ∙ sym (not-root t (root now) _ _ not-root-now ∙ of-source 1 ∙ b-same 1 (omega arith) (λ (y, w). omega arith));
-            more = λ e. absurd (e (is-new 8 (omega arith)));
+      block-slot (λ z. omega (arith, z, is-new 3 (omega arith))) (record {
+        form = record {
+          long = omega (arith, is-new 0 (omega arith), is-new 1 (omega arith), o .form .long);
+          inside = omega (arith, is-new 1 (omega arith), o .form .inside, frame .size);
+          fewRights = omega (arith, is-new 2 (omega arith), o .form .fewRights, and-le-r r (rights m d b), fewer);
+          known = omega (arith, is-new 3 (omega arith));
+        };
+        uses = in-hand (is-new 3 (omega arith)) (record { noChild = is-new 4 (omega arith); noLink = is-new 5 (omega arith) });
+        sources = record {
+          ofRoot = λ e. absurd (not-root-now e);
+          ofOther = λ e. record {
+            lent = of-source 3 ∙ taken .changed 0 (omega arith);
+            toThis = of-source 4 ∙ taken .changed 1 (omega arith) ∙ sym (number-same m now s frame t (kid .listed) ∙ kid .numberWord);
+            noMore =
+                ap₂ (λ (x y : ℕ). bitAnd x y) (is-new 2 (omega arith)) (of-source 2 ∙ b-same 2 (omega arith) (λ (y, w). omega arith))
+                ∙ fewer ∙ sym (is-new 2 (omega arith));
           };
         };
-      }
+        pieces = record {
+          first = λ e. (
+            is-new 0 (omega arith) ∙ sym (not-root t (root now) _ _ not-root-now ∙ of-source 0 ∙ b-same 0 (omega arith) (λ (y, w). omega arith)),
+            not-root t (root now) _ _ not-root-now ∙ of-source 5 ∙ taken .changed 2 (omega arith),
+          );
+          later = λ e. absurd (e (is-new 7 (omega arith)));
+          last = λ e. is-new 1 (omega arith) ∙ sym (not-root t (root now) _ _ not-root-now ∙ of-source 1 ∙ b-same 1 (omega arith) (λ (y, w). omega arith));
+          more = λ e. absurd (e (is-new 8 (omega arith)));
+        };
+      })
 
   -- ---- the lent block
 
@@ -139,7 +136,7 @@ module _ (m : List ℕ) (s : Sound m) (d c b r : ℕ) (p : Partition m d) (stand
       let c-same : (g : ℕ) → g < 7 → Same m now d c g = λ g.
       kernel d c g (record { partition = p; block = λ z. omega (arith, z, stands) }) (omega (arith, stands)) in
       let at : place now d (child now d b) ≡ t = ap (place now d) (taken .changed 1 (omega arith)) ∙ ap wordFrom (c-same 0 (omega arith)) in
-      is-lent now d b (taken .changed 0 (omega arith)) (record {
+      is-lent (taken .changed 0 (omega arith)) (record {
         toChild = ap (used now d) (taken .changed 1 (omega arith)) ∙ c-same 3 (omega arith) ∙ stands;
         fromThis = ap₂ (λ (x y : ℕ). source now x y) at (taken .changed 2 (omega arith)) ∙ is-new 6 (omega arith);
         first = ap₂ (λ (x y : ℕ). previous now x y) at (taken .changed 2 (omega arith)) ∙ is-new 7 (omega arith);

@@ -122,7 +122,7 @@ module _ (m : List ℕ) (s : Sound m) (d b : ℕ) (p : Partition m d) (hand : us
 
   -- the block that it stands in
   uses : Use now d b
-  uses = holds-descriptor now d b (laid .changed 0 (omega arith)) (record {
+  uses = holds-descriptor (laid .changed 0 (omega arith)) (record {
     noChild = laid .changed 1 (omega arith);
     noLink = laid .changed 2 (omega arith);
     room = omega (arith, at, laid .ends, room);

@@ -12,7 +12,8 @@ use Rattle.block_soundness.proofs.Blocks.{block, field-has, number-some, after}
 use Rattle.block_rules.specs.Effects.{cutAt}
 use Rattle.block_rules.proofs.Frame.{Placed}
 use Rattle.block_rules.proofs.Trail.{trail, Wrote, wrote}
-use Rattle.block_rules.proofs.Keep.{Back, pieces-of, in-hand, block-slot}
+use Rattle.block_rules.proofs.Keep.{Back, pieces-of, block-slot}
+use Rattle.block_rules.proofs.Uses.{in-hand}
 use Rattle.block_rules.proofs.Framed.{placed}
 use Rattle.block_rules.proofs.Chain.{one, Chain, chain}
 use Rattle.block_rules.proofs.Pieces.{OthersStay, l-same, Rechained, last-source, last-back, rechained-sound}
@@ -121,7 +122,7 @@ module _ (m : List ℕ) (s : Sound m) (d b x : ℕ) (p : Partition m d) (hand : 
           fewRights = omega (arith, is-new 2 (omega arith), o .fewRights);
           known = omega (arith, e3);
         };
-        uses = in-hand e3 (is-new 4 (omega arith)) (is-new 5 (omega arith));
+        uses = in-hand e3 (record { noChild = is-new 4 (omega arith); noLink = is-new 5 (omega arith) });
         sources = last-source c r;
         pieces = pieces-of
             ((λ e. absurd (omega (arith, e, e7, number-some m s (c .lower)))), λ e. ap (λ (o : ℕ). next m₄ d o) e7 ∙ b-next)

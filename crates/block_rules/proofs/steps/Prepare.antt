@@ -21,7 +21,7 @@ use Rattle.block_soundness.proofs.Ranges.{table-has}
 use Rattle.block_soundness.proofs.Records.{Record, desc, words, base, Valid, low, layout, named-own, named-child}
 use Rattle.block_rules.specs.Effects.{prepareFor}
 use Rattle.block_rules.proofs.SlotWrite.{inStructure}
-use Rattle.block_rules.proofs.Keep.{this-or, Same, named-same}
+use Rattle.block_rules.proofs.Keep.{this-or, wiped-slot, Same, named-same}
 use Rattle.block_rules.proofs.Ground.{root-now, parent-on, number-on}
 use Rattle.block_rules.proofs.Grown.{named-partition, words8}
 use Rattle.block_rules.proofs.Framed.{permitted-now}
@@ -152,7 +152,7 @@ module _ (m : List ℕ) (s : Sound m) (d c b : ℕ) (p : Partition m d) (stands 
       let kid : c ≢ 0 → (g : ℕ) → g < 7 → Same m now d c g = λ h g i.
       old .kernel d c g (record { partition = p; block = λ z. omega (arith, z, stands h) }) (omega (arith, stands h)) i in
       let whom : named now d (child now d b) ≡ t = ap (named now d) cs ∙ named-same m now d c (λ h. kid h 0 (omega arith)) in
-      holds-structure now d b (laid .changed 0 (omega arith)) (record {
+      holds-structure (laid .changed 0 (omega arith)) (record {
         whose = λ h. let h' : c ≢ 0 = λ y. h (cs ∙ y) in ap (used now d) cs ∙ kid h' 3 (omega arith) ∙ stands h';
         room = omega (arith, at, laid .ends, room);
         there = ap₂ (λ (y z : ℕ). structure now y z) whom (laid .changed 2 (omega arith)) ∙ structure-now ∙ sym at;
@@ -167,7 +167,7 @@ module _ (m : List ℕ) (s : Sound m) (d c b : ℕ) (p : Partition m d) (stands 
       let zero : (g : ℕ) → g < 9 → field now t o g ≡ 0 = λ g h.
       field-at now t o g (λ z. omega (arith, z, at, above-own m s d b 74 p hand room)) ∙ ap (word now) (omega (arith, at))
       ∙ new-word (inStructure o g) (omega arith) ∙ after-two b own 72 (inStructure o g) (omega arith) in
-      record { free = λ z. zero; taken = λ z. absurd (z (zero 3 (omega arith))) }
+      wiped-slot zero
 
   slots : (u o : ℕ) → Partition m u → Has now u o → Slot now u o
   slots u o v h = elim (ℕ-discrete (structure m u (o / 8)) 0) [

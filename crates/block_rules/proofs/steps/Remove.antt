@@ -14,7 +14,7 @@ use Rattle.block_soundness.proofs.Once.{up, same-child, source-start, source-en
 use Rattle.block_rules.specs.Effects.{disable, giveBack, freeSlot, removeFrom}
 use Rattle.block_rules.proofs.Frame.{Placed, Frame}
 use Rattle.block_rules.proofs.Trail.{Trail, trail, next-trail, next-put, next-other, next-at, here}
-use Rattle.block_rules.proofs.Keep.{this-or, Same, FirstStays}
+use Rattle.block_rules.proofs.Keep.{this-or, wiped-slot, Same, FirstStays}
 use Rattle.block_rules.proofs.Ground.{SourceStays, Beside, given-back}
 use Rattle.block_rules.proofs.Grown.{KernelStays, words8}
 use Rattle.block_rules.proofs.Framed.{placed, grown, framed}
@@ -175,7 +175,7 @@ module _ (m : List ℕ) (s : Sound m) (d c b : ℕ) (p : Partition m d) (stands 
   -- ---- the slots
 
   child-slot : Slot now t n
-  child-slot = record { free = λ z g i. wiped g i; taken = λ z. absurd (z (wiped 3 (omega arith))) }
+  child-slot = wiped-slot wiped
 
   back-slot : Slot now d b
   back-slot =
