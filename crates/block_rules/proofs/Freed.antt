@@ -8,7 +8,7 @@ use lib.ListN.{replicate, getD-replicate}
 use Rattle.block_memory.specs.Partition.{Partition, entry, Has, field}
 use Rattle.block_rules.specs.Effects.{disable, freeSlot}
 use Rattle.block_rules.proofs.Frame.{Placed}
-use Rattle.block_rules.proofs.Trail.{Trail, next-trail, next-put, next-other, next-at, here, off-trail, off-fields, off-entries}
+use Rattle.block_rules.proofs.Trail.{Trail, Wrote, wrote, Off, off}
 use Rattle.block_rules.proofs.Keep.{Same}
 
 -- in w slot n of d is free and not enabled; every other field is as in m₁
@@ -19,26 +19,16 @@ pub record Freed (m m₁ w : List ℕ) (d n : ℕ) : Type 0 where
   pub off : (e : ℕ) → entry w d e ≢ 0 → entry w d e ≢ n
 
 module _ (m m₁ : List ℕ) (q : Placed m) (a : Trail m m₁) (d n : ℕ) (p : Partition m d) (has : Has m d n) where
-  abbrev zeros : List ℕ
-  zeros = replicate 9 0
+  x : Off m m₁ d n
+  x = off q a p
 
-  abbrev m₂ : List ℕ
-  m₂ = disable m₁ d n
+  y : Wrote m (disable m₁ d n) d n 0 (replicate 9 0)
+  y = wrote q (x .trail) p (omega arith)
 
-  abbrev w : List ℕ
-  w = freeSlot m₂ d n
-
-  disabled : Trail m m₂
-  disabled = off-trail m m₁ q a d n p
-
-  pub free : Freed m m₁ w d n
+  pub free : Freed m m₁ (freeSlot (disable m₁ d n) d n) d n
   free = record {
-    trail = next-trail m m₂ q disabled d n 0 zeros p (omega arith);
-    others = λ u o g v i away.
-        next-other m m₂ q disabled d n 0 zeros p (omega arith) u o g v i (λ (x, y, z, k). away (x, y)) ∙ off-fields m m₁ q a d n p u o g v i;
-    wiped = λ g i.
-        ap (field w d n) (omega arith) ∙ next-at m m₂ q disabled d n 0 zeros p (omega arith) has g (omega arith) ∙ getD-replicate 9 g 0 0 i;
-    off = λ e z f.
-        let k = next-put m m₂ q disabled d n 0 zeros p (omega arith) .entries d e (here m m₂ q disabled d n 0 zeros p (omega arith) p) in
-        off-entries m m₁ q a d n p e (λ y. z (k ∙ y)) (sym k ∙ f);
+    trail = y .trail;
+    others = λ u o g v i away. y .others u o g v i (λ (e, f, z, k). away (e, f)) ∙ x .fields u o g v i;
+    wiped = λ g i. ap (field (freeSlot (disable m₁ d n) d n) d n) (omega arith) ∙ y .at has g (omega arith) ∙ getD-replicate 9 g 0 0 i;
+    off = λ e z f. let k = y .entries d e p in x .entries e (λ b. z (k ∙ b)) (sym k ∙ f);
   }

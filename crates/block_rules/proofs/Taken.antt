@@ -8,7 +8,7 @@ use lib.ListN.{getD}
 use Rattle.block_memory.specs.Partition.{Partition, entry, Has, field}
 use Rattle.block_rules.specs.Effects.{disable, takeAs}
 use Rattle.block_rules.proofs.Frame.{Placed}
-use Rattle.block_rules.proofs.Trail.{Trail, next-trail, next-put, next-other, next-at, here, off-trail, off-fields, off-entries}
+use Rattle.block_rules.proofs.Trail.{Trail, Wrote, wrote, Off, off}
 use Rattle.block_rules.proofs.Keep.{Same}
 
 -- in w block b of d has the words `three` from word 3 on and isn't enabled; every other field is as in m₁
@@ -22,18 +22,16 @@ module _ (m m₁ : List ℕ) (q : Placed m) (a : Trail m m₁) (d b u c l : ℕ)
   abbrev three : List ℕ
   three = u ∷ c ∷ l ∷ []
 
-  abbrev m₂ : List ℕ
-  m₂ = disable m₁ d b
+  o : Off m m₁ d b
+  o = off q a p
 
-  disabled : Trail m m₂
-  disabled = off-trail m m₁ q a d b p
+  w : Wrote m (disable m₁ d b) d b 3 three
+  w = wrote q (o .trail) p (omega arith)
 
   pub take : Taken m m₁ (takeAs m₁ d b u c l) d b three
   take = record {
-    trail = next-trail m m₂ q disabled d b 3 three p (omega arith);
-    others = λ t o g v i away. next-other m m₂ q disabled d b 3 three p (omega arith) t o g v i away ∙ off-fields m m₁ q a d b p t o g v i;
-    changed = next-at m m₂ q disabled d b 3 three p (omega arith) has;
-    off = λ e z w.
-        let k = next-put m m₂ q disabled d b 3 three p (omega arith) .entries d e (here m m₂ q disabled d b 3 three p (omega arith) p) in
-        off-entries m m₁ q a d b p e (λ y. z (k ∙ y)) (sym k ∙ w);
+    trail = w .trail;
+    others = λ t n g v i away. w .others t n g v i away ∙ o .fields t n g v i;
+    changed = w .at has;
+    off = λ e z f. let k = w .entries d e p in o .entries e (λ y. z (k ∙ y)) (sym k ∙ f);
   }

@@ -19,55 +19,18 @@ pub record Trail (m m' : List ℕ) : Type 0 where
 pub trail : (m : List ℕ) → Placed m → Trail m m
 trail m p = record { placed = p; frame = frame-self m; now = refl; entries = λ t e v z. refl }
 
--- ---- the words ws written to slot n of d, from its word f on
+here : {m m₁ : List ℕ} {d : ℕ} → Placed m → Trail m m₁ → Partition m d → Partition m₁ d
+here {m} {m₁} q a h = to m m₁ (q .permits) (a .frame) h
 
-module _ (m m₁ : List ℕ) (q : Placed m) (a : Trail m m₁) (d n f : ℕ) (ws : List ℕ) (h : Partition m d) (fits : f + length ws ≤ 9) where
-  abbrev m₂ : List ℕ
-  m₂ = putSlot m₁ d n f ws
+then : {m m₁ m₂ : List ℕ} → Placed m → Trail m m₁ → Frame m₁ m₂ → current m₂ ≡ current m₁ → FewerEntries m₁ m₂ → Trail m m₂
+then {m} {m₁} {m₂} q a f now few = record {
+  placed = placed-kept m₁ m₂ (a .placed) f;
+  frame = frame-then m m₁ m₂ (q .permits) (a .frame) f;
+  now = now ∙ a .now;
+  entries = λ t e v z. let w = few t e (here q a v) z in w ∙ a .entries t e v (λ y. z (w ∙ y));
+}
 
-  pub here : {t : ℕ} → Partition m t → Partition m₁ t
-  here v = to m m₁ (q .permits) (a .frame) v
-
-  pub next-put : Put m₁ (a .placed) d n f ws (here h) fits m₂
-  next-put = slot-put m₁ (a .placed) d n f ws (here h) fits
-
-  pub next-trail : Trail m m₂
-  next-trail = record {
-    placed = placed-kept m₁ m₂ (a .placed) (next-put .frame);
-    frame = frame-then m m₁ m₂ (q .permits) (a .frame) (next-put .frame);
-    now = next-put .now ∙ a .now;
-    entries = λ t e v z. let w = next-put .entries t e (here v) in w ∙ a .entries t e v (λ y. z (w ∙ y));
-  }
-
-  pub next-other : (t o g : ℕ) → Partition m t → g < 9 → Unwritten d n f ws t o g → field m₂ t o g ≡ field m₁ t o g
-  next-other t o g v i away = next-put .others t o g (here v) i away
-
-  pub next-at : Has m d n → (t : ℕ) → t < length ws → field m₂ d n (f + t) ≡ getD ws t 0
-  next-at x t i = next-put .at (λ z. x (sym (structure-stays m m₁ (q .permits) (a .frame) d (n / 8) h) ∙ z)) t i
-
--- ---- block n of d disabled
-
-module _ (m m₁ : List ℕ) (q : Placed m) (a : Trail m m₁) (d n : ℕ) (h : Partition m d) where
-  off-now : Disabled m₁ (disable m₁ d n) d × ((e : ℕ) → entry (disable m₁ d n) d e ≢ 0 → entry (disable m₁ d n) d e ≢ n)
-  off-now = disabled d n m₁ (a .placed) (to m m₁ (q .permits) (a .frame) h)
-
-  pub off-trail : Trail m (disable m₁ d n)
-  off-trail = let x = off-now .0 in record {
-    placed = placed-kept m₁ (disable m₁ d n) (a .placed) (x .frame);
-    frame = frame-then m m₁ (disable m₁ d n) (q .permits) (a .frame) (x .frame);
-    now = x .now ∙ a .now;
-    entries = λ t e v z. let w = fewer x t e (to m m₁ (q .permits) (a .frame) v) z in w ∙ a .entries t e v (λ y. z (w ∙ y));
-  }
-
-  pub off-fields : (t o g : ℕ) → Partition m t → g < 9 → field (disable m₁ d n) t o g ≡ field m₁ t o g
-  off-fields t o g v i = off-now .0 .fields t o g (to m m₁ (q .permits) (a .frame) v) i
-
-  pub off-entries : (e : ℕ) → entry (disable m₁ d n) d e ≢ 0 → entry (disable m₁ d n) d e ≢ n
-  off-entries = off-now .1
-
--- ---- the same, told together
-
--- after m₁, on the way from m, words written to a slot
+-- after m₁, on the way from m, the words ws written to slot n of d from its word f on
 pub record Wrote (m m₁ : List ℕ) (d n f : ℕ) (ws : List ℕ) : Type 0 where
   pub trail : Trail m (putSlot m₁ d n f ws)
   pub others : (t o g : ℕ) → Partition m t → g < 9 → Unwritten d n f ws t o g → field (putSlot m₁ d n f ws) t o g ≡ field m₁ t o g
@@ -75,18 +38,26 @@ pub record Wrote (m m₁ : List ℕ) (d n f : ℕ) (ws : List ℕ) : Type 0 wher
   pub entries : (t e : ℕ) → Partition m t → entry (putSlot m₁ d n f ws) t e ≡ entry m₁ t e
 
 pub wrote : {m m₁ : List ℕ} {d n f : ℕ} {ws : List ℕ} → Placed m → Trail m m₁ → Partition m d → f + length ws ≤ 9 → Wrote m m₁ d n f ws
-wrote {m} {m₁} {d} {n} {f} {ws} q a h fits = record {
-  trail = next-trail m m₁ q a d n f ws h fits;
-  others = next-other m m₁ q a d n f ws h fits;
-  at = next-at m m₁ q a d n f ws h fits;
-  entries = λ t e v. next-put m m₁ q a d n f ws h fits .entries t e (here m m₁ q a d n f ws h fits v);
-}
+wrote {m} {m₁} {d} {n} {f} {ws} q a h fits =
+    let x = slot-put m₁ (a .placed) d n f ws (here q a h) fits in
+    record {
+      trail = then q a (x .frame) (x .now) (λ t e v z. x .entries t e v);
+      others = λ t o g v. x .others t o g (here q a v);
+      at = λ z. x .at (λ y. z (sym (structure-stays m m₁ (q .permits) (a .frame) d (n / 8) h) ∙ y));
+      entries = λ t e v. x .entries t e (here q a v);
+    }
 
--- .. a block disabled
+-- .. block n of d disabled
 pub record Off (m m₁ : List ℕ) (d n : ℕ) : Type 0 where
   pub trail : Trail m (disable m₁ d n)
   pub fields : (t o g : ℕ) → Partition m t → g < 9 → field (disable m₁ d n) t o g ≡ field m₁ t o g
   pub entries : (e : ℕ) → entry (disable m₁ d n) d e ≢ 0 → entry (disable m₁ d n) d e ≢ n
 
 pub off : {m m₁ : List ℕ} {d n : ℕ} → Placed m → Trail m m₁ → Partition m d → Off m m₁ d n
-off {m} {m₁} {d} {n} q a h = record { trail = off-trail m m₁ q a d n h; fields = off-fields m m₁ q a d n h; entries = off-entries m m₁ q a d n h }
+off {m} {m₁} {d} {n} q a h =
+    let (x, none) = disabled d n m₁ (a .placed) (here q a h) in
+    record {
+      trail = then q a (x .frame) (x .now) (fewer x);
+      fields = λ t o g v. x .fields t o g (here q a v);
+      entries = none;
+    }

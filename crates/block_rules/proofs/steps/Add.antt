@@ -14,7 +14,7 @@ use Rattle.block_memory.proofs.Lowest.{free-number}
 use Rattle.block_soundness.proofs.Blocks.{block, field-has}
 use Rattle.block_rules.specs.Effects.{takeAs, addTo}
 use Rattle.block_rules.proofs.Frame.{Placed, Frame, root-same}
-use Rattle.block_rules.proofs.Trail.{trail, next-trail, next-other, next-at}
+use Rattle.block_rules.proofs.Trail.{trail, Wrote, wrote}
 use Rattle.block_rules.proofs.Keep.{this-or, block-slot, Same}
 use Rattle.block_rules.proofs.Grown.{KernelStays}
 use Rattle.block_rules.proofs.Framed.{placed, grown, framed, parent-same, number-same}
@@ -51,8 +51,11 @@ module _ (m : List ℕ) (s : Sound m) (d c b r : ℕ) (p : Partition m d) (stand
   live-b : Live m d b
   live-b = record { partition = p; block = λ z. omega (arith, z, hand) }
 
+  added : Wrote m m t n 0 new
+  added = wrote q (trail m q) (kid .listed) (omega arith)
+
   taken : Taken m m₁ now d b (2 ∷ c ∷ n ∷ [])
-  taken = take m m₁ q (next-trail m m q (trail m q) t n 0 new (kid .listed) (omega arith)) d b 2 c n p (field-has m d b 3 (live-b .block))
+  taken = take m m₁ q (added .trail) d b 2 c n p (field-has m d b 3 (live-b .block))
 
   frame : Frame m now
   frame = taken .trail .frame
@@ -60,16 +63,13 @@ module _ (m : List ℕ) (s : Sound m) (d c b r : ℕ) (p : Partition m d) (stand
   -- ---- the words afterwards
 
   others : (u o g : ℕ) → Partition m u → g < 9 → ¬ ((u ≡ t) × (o ≡ n)) → ¬ ((u ≡ d) × (o ≡ b) × (3 ≤ g) × (g < 6)) → Same m now u o g
-  others u o g v i a₁ a₂ =
-      taken .others u o g v i a₂ ∙ next-other m m q (trail m q) t n 0 new (kid .listed) (omega arith) u o g v i (λ (y, z, h, k). a₁ (y, z))
+  others u o g v i a₁ a₂ = taken .others u o g v i a₂ ∙ added .others u o g v i (λ (y, z, h, k). a₁ (y, z))
 
   free : Has m t n × (used m t n ≡ 0)
   free = free-number m t some
 
   is-new : (g : ℕ) → g < 9 → field now t n (0 + g) ≡ getD new g 0
-  is-new g i =
-      taken .others t n (0 + g) (kid .listed) (omega arith) (λ (y, z, h, k). kid .notSelf y)
-      ∙ next-at m m q (trail m q) t n 0 new (kid .listed) (omega arith) (free .0) g i
+  is-new g i = taken .others t n (0 + g) (kid .listed) (omega arith) (λ (y, z, h, k). kid .notSelf y) ∙ added .at (free .0) g i
 
   turns : Turned m now d b
   turns = record {

@@ -13,7 +13,7 @@ use Rattle.block_soundness.proofs.Blocks.{block, field-has, number-some, before
 use Rattle.block_soundness.proofs.Once.{up, same-child, source-start, source-end}
 use Rattle.block_rules.specs.Effects.{disable, giveBack, freeSlot, removeFrom}
 use Rattle.block_rules.proofs.Frame.{Placed, Frame}
-use Rattle.block_rules.proofs.Trail.{Trail, trail, next-trail, next-put, next-other, next-at, here}
+use Rattle.block_rules.proofs.Trail.{trail, Wrote, wrote}
 use Rattle.block_rules.proofs.Keep.{this-or, wiped-slot, Same, FirstStays}
 use Rattle.block_rules.proofs.Ground.{SourceStays, Beside, given-back}
 use Rattle.block_rules.proofs.Grown.{KernelStays, words8}
@@ -56,30 +56,24 @@ module _ (m : List ℕ) (s : Sound m) (d c b : ℕ) (p : Partition m d) (stands 
   freed : Freed m m m₁ t n
   freed = free m m q (trail m q) t n (kid .listed) (field-has m t n 3 (live-n .block))
 
-  done : Trail m now
-  done = next-trail m m₁ q (freed .trail) d b 3 back p (omega arith)
+  given : Wrote m m₁ d b 3 back
+  given = wrote q (freed .trail) p (omega arith)
 
   frame : Frame m now
-  frame = done .frame
-
-  given : (u o g : ℕ) → Partition m u → g < 9 → ¬ ((u ≡ d) × (o ≡ b) × (3 ≤ g) × (g < 6)) → Same m₁ now u o g
-  given = next-other m m₁ q (freed .trail) d b 3 back p (omega arith)
+  frame = given .trail .frame
 
   others : (u o g : ℕ) → Partition m u → g < 9 → ¬ ((u ≡ t) × (o ≡ n)) → ¬ ((u ≡ d) × (o ≡ b) × (3 ≤ g) × (g < 6)) → Same m now u o g
-  others u o g v i a₁ a₂ = given u o g v i a₂ ∙ freed .others u o g v i a₁
+  others u o g v i a₁ a₂ = given .others u o g v i a₂ ∙ freed .others u o g v i a₁
 
   wiped : (g : ℕ) → g < 9 → field now t n g ≡ 0
-  wiped g i = given t n g (kid .listed) i (λ (y, z, h, k). kid .notSelf y) ∙ freed .wiped g i
+  wiped g i = given .others t n g (kid .listed) i (λ (y, z, h, k). kid .notSelf y) ∙ freed .wiped g i
 
   is-back : (g : ℕ) → g < 3 → field now d b (3 + g) ≡ getD back g 0
-  is-back = next-at m m₁ q (freed .trail) d b 3 back p (omega arith) (field-has m d b 3 (live-b .block))
+  is-back = given .at (field-has m d b 3 (live-b .block))
 
   -- the child's block is no longer enabled
   not-enabled : (e : ℕ) → entry now t e ≢ 0 → entry now t e ≢ n
-  not-enabled e z w =
-      let put = next-put m m₁ q (freed .trail) d b 3 back p (omega arith) in
-      let k = put .entries t e (here m m₁ q (freed .trail) d b 3 back p (omega arith) (kid .listed)) in
-      freed .off e (λ y. z (k ∙ y)) (sym k ∙ w)
+  not-enabled e z w = let k = given .entries t e (kid .listed) in freed .off e (λ y. z (k ∙ y)) (sym k ∙ w)
 
   -- ---- b has one piece, n
 
@@ -193,10 +187,10 @@ module _ (m : List ℕ) (s : Sound m) (d c b : ℕ) (p : Partition m d) (stands 
       let x = s .table .rootListed in
       let f = s .structures (root m) x .ofRoot refl in
       let away : ¬ ((root m ≡ t) × (8 ≡ n)) = λ (y, z). kid .notRoot (sym y) in
-      framed m now s frame kernel (subst (Partition m) (sym (done .now)) (s .header .currentWord))
+      framed m now s frame kernel (subst (Partition m) (sym (given .trail .now)) (s .header .currentWord))
       (this-or (λ u o. used now u o ≢ 0) d b (root m) 8 (λ z. omega (arith, z, is-back 0 (omega arith)))
       (λ ab z. f .block (sym (others (root m) 8 3 x (omega arith) away (λ (y, e, h, k). ab (y, e))) ∙ z)))
       (same (root m) 8 7 x away (omega arith) (λ (y, z). omega arith) ∙ f .first)
-      (entries-off m now s t n live-n (done .entries) not-enabled (λ u o l e a.
+      (entries-off m now s t n live-n (given .trail .entries) not-enabled (λ u o l e a.
       others u o 3 (l .partition) (omega arith) a (λ (y, z, h, k). omega (arith, e, lends, ap₂ (λ (i j : ℕ). used m i j) y z)) ∙ e))
       slots
