@@ -10,9 +10,10 @@ use Rattle.block_memory.specs.Partition.{root, Partition, parent, entry, start,
 use Rattle.block_memory.specs.Bytes.{Live, HasByte}
 use Rattle.block_memory.specs.Sound.{Sound}
 use Rattle.block_soundness.proofs.Ranges.{entry-range}
-use Rattle.block_soundness.proofs.Blocks.{block}
-use Rattle.block_soundness.proofs.Once.{up, same-child, once, above-first, one-block, siblings}
+use Rattle.block_soundness.proofs.Blocks.{used-as, block}
+use Rattle.block_soundness.proofs.Once.{once, one-block, siblings}
 use Rattle.block_soundness.proofs.Counted.{counted}
+use Rattle.block_soundness.proofs.Up.{up, same-child, above-first}
 use Rattle.block_claim.specs.Kept.{KernelByte, InParent, Kept}
 
 module _ (m : List ℕ) (s : Sound m) where
@@ -42,7 +43,7 @@ module _ (m : List ℕ) (s : Sound m) where
   shut : (d e x : ℕ) → Partition m d → entry m d e ≢ 0 → start m d (entry m d e) ≤ x → x < end m d (entry m d e) → KernelByte m x → ⊥
   shut d e x p z a b k =
       let u = s .entries d p .inHand e z in
-      closed d (entry m d e) x (record { live = record { partition = p; block = λ y. omega (arith, y, u) }; from = a; upTo = b }) u k
+      closed d (entry m d e) x (record { live = used-as p u; from = a; upTo = b }) u k
 
   pub kept-from : (w : ℕ) → length m ≡ w → Kept m w
   kept-from w e = record {

@@ -10,7 +10,7 @@ use Rattle.block_memory.specs.Geometry.{tableWords}
 use Rattle.block_memory.specs.Words.{word}
 use Rattle.block_memory.specs.Partition.{root, Partition, structure, Has, used, place}
 use Rattle.block_memory.specs.Sound.{Sound, Header, Table, Descriptor, Entries, Structure, Structures, Slot, Use}
-use Rattle.block_soundness.proofs.Blocks.{field-has}
+use Rattle.block_soundness.proofs.Blocks.{used-as, field-has}
 use Rattle.block_rules.proofs.Ground.{root-now, header-on}
 use Rattle.block_rules.proofs.Grown.{KernelStays, descriptor, structure-kept, root-structure}
 use Rattle.block_rules.proofs.Kept.{entries-off}
@@ -60,7 +60,7 @@ module _ (m now : List ℕ) (s : Sound m) (d b u c l : ℕ) (ws : List ℕ) (j :
       rootListed = subst (Partition now) (sym rt) (e .grown .to (s .table .rootListed));
     };
     descriptors = descriptor m now s (e .grown) kernel-stays;
-    entries = entries-off m now s d b (record { partition = p; block = λ z. omega (arith, z, hand) }) (e .entries) (e .off)
+    entries = entries-off m now s d b (used-as p hand) (e .entries) (e .off)
         (λ v o x y n. turns .others v o 3 x (omega arith) (λ (a, f, g, k). n (a, f)) ∙ y);
     structures = λ v h new. record {
       ofRoot = λ x. root-structure m now s (e .grown) kernel-stays (root-there m now s (e .grown) d b p turns) (root-first m now s (e .grown) d b p turns);

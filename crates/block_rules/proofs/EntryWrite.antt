@@ -10,7 +10,7 @@ use Rattle.common.proofs.Overwrite.{overwrite-one}
 use Rattle.block_memory.specs.Words.{word, put}
 use Rattle.block_memory.specs.Partition.{root, current, Partition, entry, structure, slot, field}
 use Rattle.block_memory.proofs.Lookups.{entry-same, entry-at, field-same}
-use Rattle.block_soundness.proofs.Records.{Record, desc, struct, words, base, Valid}
+use Rattle.block_soundness.proofs.Records.{Record, desc, struct, desc-is, not-desc, words, base, Valid}
 use Rattle.block_rules.proofs.Writes as W
 use Rattle.block_rules.proofs.Frame.{Placed, Frame, structure-stays}
 use Rattle.block_rules.proofs.SlotWrite.{inStructure}
@@ -36,9 +36,6 @@ module _ (m : List ℕ) (p : Placed m) (d e x : ℕ) (h : Partition m d) (a : 1 
   entry-low : (j : ℕ) → j < root m → word now j ≡ word m j
   entry-low j i = ap (λ (w : List ℕ). word w j) put-entry ∙ W.below-stays m (p .lay) (desc d) h m refl (7 + e) (x ∷ []) entry-fits j i
 
-  not-desc : (t k : ℕ) → struct t k ≡ desc d → ⊥
-  not-desc t k q = let z : _≡_ {A = ℕ} 0 1 = cc in omega arith
-
   outside : {i : ℕ} → (i < 8) ⊎ (16 ≤ i) → i ≢ 7 + e
   outside (inl y) z = omega arith
   outside (inr y) z = omega arith
@@ -49,7 +46,7 @@ module _ (m : List ℕ) (p : Placed m) (d e x : ℕ) (h : Partition m d) (a : 1 
     header = λ i c g. entry-low i (omega arith);
     table = λ i c g. entry-low i g;
     descriptor = λ t i v c g. entry-stays (desc t) v i c (λ (u, y). outside g y);
-    two = λ t k i v z c. entry-stays (struct t k) (v, z) i (omega arith) (λ (u, y). not-desc t k u);
+    two = λ t k i v z c. entry-stays (struct t k) (v, z) i (omega arith) (λ (u, y). not-desc u);
   }
 
   entry-current : current now ≡ current m
@@ -60,12 +57,12 @@ module _ (m : List ℕ) (p : Placed m) (d e x : ℕ) (h : Partition m d) (a : 1 
       field-same m now t o g (structure-stays m now (p .permits) entry-frame t (o / 8) v) (λ z.
       let q : slot m t o + g ≡ structure m t (o / 8) + inStructure o g = omega arith in
       let r : word now (structure m t (o / 8) + inStructure o g) ≡ word m (structure m t (o / 8) + inStructure o g) =
-      entry-stays (struct t (o / 8)) (v, z) (inStructure o g) (omega arith) (λ (u, y). not-desc t (o / 8) u) in
+      entry-stays (struct t (o / 8)) (v, z) (inStructure o g) (omega arith) (λ (u, y). not-desc u) in
       ap (word now) q ∙ r ∙ ap (word m) (sym q))
 
   entry-other : (t k : ℕ) → Partition m t → ¬ ((t ≡ d) × (k ≡ e)) → entry now t k ≡ entry m t k
   entry-other t k v away = entry-same m now t k (λ i j. let q : t + 7 + k ≡ t + (7 + k) = omega arith in
-      ap (word now) q ∙ entry-stays (desc t) v (7 + k) (omega arith) (λ (u, y). away (cc, omega arith)) ∙ ap (word m) (sym q))
+      ap (word now) q ∙ entry-stays (desc t) v (7 + k) (omega arith) (λ (u, y). away (desc-is u, omega arith)) ∙ ap (word m) (sym q))
 
   entry-now : entry now d e ≡ x
   entry-now = entry-at now d e a b ∙ getD-set-same m (d + 7 + e) x 0 (omega (arith, p .lay .inside (desc d) h))

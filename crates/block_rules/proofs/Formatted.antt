@@ -21,6 +21,7 @@ use Rattle.common.proofs.Overwrite.{length-overwrite, overwrite-before, overwri
 use Rattle.walk.specs.Walk.{zeros-at}
 use Rattle.block_memory.proofs.Lookups.{entry-at, structure-at, field-at}
 use Rattle.block_soundness.proofs.Ranges.{Permitted, permitted?, entry-range, structure-range}
+use Rattle.block_soundness.proofs.Sources.{root-start, root-end, root-link}
 use Rattle.block_rules.proofs.Keep.{block-slot, wiped-slot}
 use Rattle.block_rules.proofs.Uses.{in-hand}
 
@@ -154,9 +155,6 @@ module _ (w : ℕ) (per : Permitted w) where
 
   -- ---- the sentences
 
-  is-root : (x y : ℕ) → cond (eqb d (root m)) x y ≡ x
-  is-root x y = ap (λ (b : Bool). cond b x y) (eq-eqb d (root m) (sym rt))
-
   starting : Slot m d 8
   starting = block-slot (λ z. omega (arith, z, block-word 3 (omega arith))) (record {
     form = record {
@@ -175,9 +173,9 @@ module _ (w : ℕ) (per : Permitted w) where
       ofOther = λ e. absurd (e (sym rt));
     };
     pieces = record {
-      first = λ e. (block-word 0 (omega arith) ∙ sym (is-root _ _ ∙ ap firstByte size), is-root _ _);
+      first = λ e. (block-word 0 (omega arith) ∙ sym (root-start m d 8 (sym rt) ∙ ap firstByte size), root-link m d 8 (sym rt));
       later = λ e. absurd (e (block-zero 7 (omega arith) (omega arith)));
-      last = λ e. block-word 1 (omega arith) ∙ sym (is-root _ _ ∙ ap (λ (x : ℕ). 4 * x) size);
+      last = λ e. block-word 1 (omega arith) ∙ sym (root-end m d 8 (sym rt) ∙ ap (λ (x : ℕ). 4 * x) size);
       more = λ e. absurd (e (block-zero 8 (omega arith) (omega arith)));
     };
   })

@@ -13,9 +13,7 @@ use Rattle.block_memory.specs.Partition.{root, Partition, parent, structure, us
 use Rattle.block_memory.specs.Bytes.{Live}
 use Rattle.block_memory.specs.Sound.{Sound, Descriptor, Structure, RootStructure}
 use Rattle.block_soundness.proofs.Blocks.{block}
-use Rattle.block_soundness.proofs.Once.{above-first}
-use Rattle.block_soundness.proofs.Records.{named-own, named-child}
-use Rattle.block_rules.proofs.Child.{child-of}
+use Rattle.block_soundness.proofs.Records.{structure-of}
 use Rattle.block_rules.proofs.Keep.{Same, FirstStays}
 use Rattle.block_rules.proofs.Ground.{Words8, descriptor-on, Held, structure-on, root-structure-on, Named}
 
@@ -29,20 +27,6 @@ pub record Grown (m m' : List ℕ) : Type 0 where
   pub words : (d i : ℕ) → Partition m d → i < 8 → word m' (d + i) ≡ word m (d + i)
   pub structures : (d k : ℕ) → Partition m d → structure m d k ≢ 0 → structure m' d k ≡ structure m d k
   pub two : (d k i : ℕ) → Partition m d → structure m d k ≢ 0 → i < 2 → word m' (structure m d k + i) ≡ word m (structure m d k + i)
-
--- the partition that a child's number names
-pub named-partition : (m : List ℕ) (s : Sound m) (d c : ℕ) → Partition m d → (c ≢ 0 → used m d c ≡ 3) → Partition m (named m d c)
-named-partition m s d c p h = elim (ℕ-discrete c 0) [
-  | yes z ↦ subst (Partition m) (sym (named-own m s d c z)) p
-  | no z ↦ subst (Partition m) (sym (named-child m s d c z)) (child-of m s d c p (h z) .listed)
-]
-
--- the structure that stands in a block of use 4
-pub structure-of : (m : List ℕ) (s : Sound m) (d n : ℕ) → Live m d n → used m d n ≡ 4
-    → Partition m (named m d (child m d n)) × (structure m (named m d (child m d n)) (link m d n) ≢ 0)
-structure-of m s d n l e =
-    let h = block m s l .uses .use4 e in
-    (named-partition m s d (child m d n) (l .partition) (h .whose), λ w. omega (arith, w, h .there, above-first m s l))
 
 module _ (m m' : List ℕ) (s : Sound m) (f : Grown m m') where
   pub words8 : (d : ℕ) → Partition m d → Words8 m m' s (f .size) d

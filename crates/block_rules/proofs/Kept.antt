@@ -8,8 +8,9 @@ use native.Mathlib.Decide.{ℕ-discrete}
 use Rattle.block_memory.specs.Partition.{root, current, Partition, entry, Has, used, child, link, previous, next, place}
 use Rattle.block_memory.specs.Bytes.{Live}
 use Rattle.block_memory.specs.Sound.{Sound, Entries, Slot, Source}
-use Rattle.block_soundness.proofs.Blocks.{number-some}
-use Rattle.block_soundness.proofs.Once.{up, lends}
+use Rattle.block_soundness.proofs.Blocks.{used-as, number-some}
+use Rattle.block_soundness.proofs.Up.{up}
+use Rattle.block_soundness.proofs.Child.{lends}
 use Rattle.block_rules.proofs.Frame.{Frame}
 use Rattle.block_rules.proofs.EntryWrite.{SameFields}
 use Rattle.block_rules.proofs.Disabled.{FewerEntries}
@@ -60,7 +61,7 @@ module _ (m m' : List ℕ) (s : Sound m) (f : Frame m m') (kernel : KernelStays 
 
 -- the child that a lent block names is a partition, and the first piece is its block
 pub lent-child : (m : List ℕ) (s : Sound m) (d n : ℕ) → Live m d n → used m d n ≡ 2 → Partition m (place m d (child m d n))
-lent-child m s d n l e = lends m s l e .listed
+lent-child m s d n l e = lends m s l e .kid .listed
 
 pub first-piece : (m : List ℕ) (s : Sound m) (d n : ℕ) → Live m d n → used m d n ≡ 2 → Live m (place m d (child m d n)) (link m d n)
 first-piece m s d n l e = lends m s l e .first
@@ -102,6 +103,6 @@ module _ (m m' : List ℕ) (s : Sound m) (f : Frame m m') (same : SameFields m m
 pub entries-off : (m m' : List ℕ) (s : Sound m) (d b : ℕ) → Live m d b → FewerEntries m m' → ((e : ℕ) → entry m' d e ≢ 0 → entry m' d e ≢ b)
     → ((u o : ℕ) → Live m u o → used m u o ≡ 1 → ¬ ((u ≡ d) × (o ≡ b)) → used m' u o ≡ 1) → (u : ℕ) → Partition m u → Entries m' u
 entries-off m m' s d b l fewer off hand u v = entries-kept m m' s u v (λ e z. fewer u e v z) (λ o x e w.
-    hand u o (record { partition = v; block = λ z. omega (arith, z, x) }) x (λ (y, z).
+    hand u o (used-as v x) x (λ (y, z).
     let f : entry m' d e ≡ b = ap (λ (a : ℕ). entry m' a e) (sym y) ∙ sym w ∙ z in
     off e (λ g. omega (arith, g, f, number-some m s l)) f))

@@ -9,10 +9,11 @@ use Rattle.block_memory.specs.Words.{word}
 use Rattle.block_memory.specs.Partition.{root, current, Partition, parent, number, structure, used, child, link, source, place, named, holder}
 use Rattle.block_memory.specs.Bytes.{Live}
 use Rattle.block_memory.specs.Sound.{Sound}
-use Rattle.block_soundness.proofs.Blocks.{block}
-use Rattle.block_soundness.proofs.Once.{up}
-use Rattle.block_soundness.proofs.Records.{Record, desc, struct, owner, standing, standing-struct, named-child, struct-held}
-use Rattle.block_rules.proofs.Grown.{structure-of}
+use Rattle.block_soundness.proofs.Blocks.{used-as, block}
+use Rattle.block_soundness.proofs.Records.{Record, desc, struct, owner, standing, standing-struct, struct-held}
+use Rattle.block_soundness.proofs.Up.{up}
+use Rattle.block_soundness.proofs.Child.{named-child}
+use Rattle.block_soundness.proofs.Records.{structure-of}
 use Rattle.block_rules.proofs.Kept.{lent-child}
 
 -- "Give back b: its words 3, 4, 5 become 1, 0, 0"
@@ -99,7 +100,7 @@ module _ (m : List ℕ) (Gone : Record → Type 0) where
       pub own-block : u ≢ root m → Live m (parent m u) (number m u) × ¬ (Back (parent m u) (number m u))
       own-block r =
           let x = s .descriptors u v .ofOther r in (
-            record { partition = x .parentListed; block = λ z. omega (arith, z, x .stands) },
+            used-as (x .parentListed) (x .stands),
             desc-here _ _ (x .stands) (subst (λ (w : ℕ). ¬ (Gone (desc w))) (sym (x .there)) h),
           )
 

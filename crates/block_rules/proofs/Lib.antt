@@ -13,7 +13,6 @@ pub mod Rows
 pub mod Kept
 pub mod Chain
 pub mod Pieces
-pub mod Child
 pub mod Uses
 pub mod Formatted
 pub mod Taken

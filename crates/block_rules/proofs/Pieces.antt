@@ -10,8 +10,8 @@ use Rattle.block_memory.specs.Partition.{root, Partition, entry, Has, start, en
 use Rattle.block_memory.specs.Bytes.{Live}
 use Rattle.block_memory.specs.Sound.{Sound, Slot, Source}
 use Rattle.block_soundness.proofs.Ranges.{has-range}
-use Rattle.block_soundness.proofs.Blocks.{block, number-some, before, after}
-use Rattle.block_soundness.proofs.Once.{up, first-in-root}
+use Rattle.block_soundness.proofs.Blocks.{block, number-some, before, after, first-in-root}
+use Rattle.block_soundness.proofs.Up.{up}
 use Rattle.block_rules.proofs.Frame.{Frame}
 use Rattle.block_rules.proofs.Chain.{Chain}
 use Rattle.block_rules.proofs.Trail.{Trail}

@@ -7,13 +7,13 @@ use lib.ListN.{length}
 use Rattle.block_memory.specs.Partition.{root, Partition, end, used, place}
 use Rattle.block_memory.specs.Bytes.{Live}
 use Rattle.block_memory.specs.Sound.{Sound}
-use Rattle.block_soundness.proofs.Blocks.{block}
-use Rattle.block_soundness.proofs.Once.{above-first}
+use Rattle.block_soundness.proofs.Blocks.{used-as, block}
 use Rattle.block_soundness.proofs.Records.{Record, words, base, Valid, not-in-hand}
+use Rattle.block_soundness.proofs.Up.{above-first}
 
 module _ (m : List ℕ) (s : Sound m) (d b n : ℕ) (p : Partition m d) (hand : used m d b ≡ 1) (room : 4 * (place m d b + n) ≤ end m d b) where
   live-b : Live m d b
-  live-b = record { partition = p; block = λ z. omega (arith, z, hand) }
+  live-b = used-as p hand
 
   pub above-own : root m + 106 ≤ place m d b
   above-own = omega (arith, above-first m s live-b)

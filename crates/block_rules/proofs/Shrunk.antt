@@ -15,15 +15,14 @@ use Rattle.block_memory.specs.Bytes.{Live}
 use Rattle.block_memory.specs.Sound.{Sound, Entries, Structure, Structures, Slot}
 use Rattle.block_memory.proofs.Lookups.{structure-same, entry-same, field-at, field-same}
 use Rattle.block_soundness.proofs.Ranges.{Permitted, table-has}
-use Rattle.block_soundness.proofs.Blocks.{block, field-has, number-some, before, after}
-use Rattle.block_soundness.proofs.Once.{up}
+use Rattle.block_soundness.proofs.Blocks.{used-as, block, field-has, first-in-root, number-some, before, after}
 use Rattle.block_soundness.proofs.Levels.{same-word}
-use Rattle.block_soundness.proofs.Records.{Record, desc, struct}
+use Rattle.block_soundness.proofs.Records.{Record, desc, struct, structure-of}
+use Rattle.block_soundness.proofs.Up.{up}
 use Rattle.block_rules.proofs.SlotWrite.{inStructure}
 use Rattle.block_rules.proofs.Keep.{Same}
 use Rattle.block_rules.proofs.Ground.{root-now, header-on, Words8, descriptor-on, Held, structure-on, root-structure-on, Named, SourceStays, Beside}
 use Rattle.block_rules.proofs.Ground.{slot-on, given-back, free-on}
-use Rattle.block_rules.proofs.Grown.{structure-of}
 use Rattle.block_rules.proofs.Framed.{permitted-now}
 use Rattle.block_rules.proofs.Kept.{first-piece, entries-kept}
 use Rattle.block_rules.proofs.Leaving.{backWords, Back, lent, holdsDescriptor, holdsStructure, Leaving, back-some, hand-here, desc-here, kid-back, back?}
@@ -137,7 +136,7 @@ module _ (m m' : List ℕ) (s : Sound m) (Gone : Record → Type 0) (l : Leaving
   names : (u o : ℕ) → Live m u o → Stays u → ¬ (Back m Gone u o) → Named m m' s size u o
   names u o b h a = record {
     kid = λ x.
-        let k : Live m u (child m u o) = record { partition = b .partition; block = λ z. omega (arith, z, x) } in
+        let k = used-as (b .partition) x in
         let c = desc-here m Gone u (child m u o) x (λ g. a (kid-back m Gone s l u o b (λ z. omega (arith, z, number-some m s k)) g)) in
         (same-all u _ 0 k h c (omega arith), same-all u _ 3 k h c (omega arith));
     first = λ x.
@@ -207,7 +206,7 @@ module _ (m m' : List ℕ) (s : Sound m) (Gone : Record → Type 0) (l : Leaving
   structures u v h =
       let r = s .table .rootListed in
       let x = s .structures (root m) r .ofRoot refl in
-      let b : Live m (root m) 8 = record { partition = r; block = x .block } in
+      let b = first-in-root m s in
       let a = l .empty (root m) 8 b (l .rootStays) in
       let z : structure m (root m) 1 ≢ 0 = λ w. omega (arith, w, x .at) in
       record {
@@ -226,7 +225,7 @@ module _ (m m' : List ℕ) (s : Sound m) (Gone : Record → Type 0) (l : Leaving
       (λ e z. entry-same m m' u e (λ x y.
       let c : u + 7 + e ≡ u + (7 + e) = omega arith in
       ap (word m') c ∙ f .inDescriptor u (7 + e) v h (omega arith) (λ k a i. absurd (omega arith)) ∙ ap (word m) (sym c)))
-      (λ o x e y. same-all u o 3 (record { partition = v; block = λ z. omega (arith, z, x) }) h (hand-here m Gone u o x) (omega arith) ∙ x)
+      (λ o x e y. same-all u o 3 (used-as v x) h (hand-here m Gone u o x) (omega arith) ∙ x)
 
   low-word : (j : ℕ) → j < 8 → word m' j ≡ word m j
   low-word j i = f .low j (omega arith) (λ u v g. omega arith)

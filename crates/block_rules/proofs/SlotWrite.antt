@@ -12,7 +12,7 @@ use Rattle.common.proofs.Overwrite.{length-overwrite}
 use Rattle.block_memory.specs.Words.{word}
 use Rattle.block_memory.specs.Partition.{root, current, Partition, entry, structure, Has, slot, field, putSlot}
 use Rattle.block_memory.proofs.Lookups.{entry-same, field-at, field-same}
-use Rattle.block_soundness.proofs.Records.{Record, desc, struct, words, base, Valid}
+use Rattle.block_soundness.proofs.Records.{Record, desc, struct, struct-is, not-struct, words, base, Valid}
 use Rattle.block_rules.proofs.Writes as W
 use Rattle.block_rules.proofs.Frame.{Placed, Frame, frame-self, structure-stays}
 
@@ -56,15 +56,12 @@ module _ (m : List ℕ) (p : Placed m) (d n f : ℕ) (ws : List ℕ) (h : Partit
       ap (λ (w : List ℕ). word w j) put-is
       ∙ W.below-stays m (p .lay) record-of (h, has) m refl (inStructure n f) ws in-record j i
 
-  not-struct : (t : ℕ) → desc t ≡ record-of → ⊥
-  not-struct t e = let z : _≡_ {A = ℕ} 0 1 = cc in omega arith
-
   slot-frame : Frame m now
   slot-frame = record {
     size = ap length put-is ∙ length-overwrite m (structure m d (n / 8) + inStructure n f) ws;
     header = λ i a b. low-stays i (omega arith);
     table = λ i a b. low-stays i b;
-    descriptor = λ t i v a b. stays (desc t) v i a (λ (e, x, y). not-struct t e);
+    descriptor = λ t i v a b. stays (desc t) v i a (λ (e, x, y). not-struct e);
     two = λ t k i v z a. stays (struct t k) (v, z) i (omega arith) (λ (e, x, y). omega arith);
   }
 
@@ -73,7 +70,7 @@ module _ (m : List ℕ) (p : Placed m) (d n f : ℕ) (ws : List ℕ) (h : Partit
 
   slot-entries : SameEntries m now
   slot-entries t e v = entry-same m now t e (λ a b. let q : t + 7 + e ≡ t + (7 + e) = omega arith in
-      ap (word now) q ∙ stays (desc t) v (7 + e) (omega arith) (λ (x, y, z). not-struct t x) ∙ ap (word m) (sym q))
+      ap (word now) q ∙ stays (desc t) v (7 + e) (omega arith) (λ (x, y, z). not-struct x) ∙ ap (word m) (sym q))
 
   slot-other : (t o g : ℕ) → Partition m t → g < 9 → Unwritten d n f ws t o g → field now t o g ≡ field m t o g
   slot-other t o g v i away =
@@ -83,8 +80,7 @@ module _ (m : List ℕ) (p : Placed m) (d n f : ℕ) (ws : List ℕ) (h : Partit
     where
       same : (struct t (o / 8) ≡ record-of) × (inStructure n f ≤ inStructure o g) × (inStructure o g < inStructure n f + length ws) → ⊥
       same (e, x, y) =
-          let a : t ≡ d = cc in
-          let b : o / 8 ≡ n / 8 = cc in
+          let (a, b) = struct-is e in
           away (a, omega arith, omega arith, omega arith)
 
   slot-at : (t : ℕ) → t < length ws → field now d n (f + t) ≡ getD ws t 0

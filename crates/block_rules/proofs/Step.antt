@@ -14,6 +14,7 @@ use Rattle.block_memory.specs.Partition.{current, Partition, used, next, named}
 use Rattle.block_memory.specs.Sound.{Sound}
 use Rattle.block_soundness.proofs.Ranges.{permitted?}
 use Rattle.block_soundness.proofs.Whole.{sound?}
+use Rattle.block_soundness.proofs.Child.{named-partition}
 use Rattle.block_rules.specs.Row.{first}
 use Rattle.block_rules.specs.Call.{Service, Call, formatAll, serve, create, delete, prepare, collect, add, remove, cut, merge, enable, readEnabled, find}
 use Rattle.block_rules.specs.Call.{enter, leave}
@@ -21,7 +22,6 @@ use Rattle.block_rules.specs.Refusals.{refusalsOf, refusals, refusal}
 use Rattle.block_rules.specs.Effects.{mergeTwo, lower, higher, effectOf, effect}
 use Rattle.block_rules.specs.Calls.{after, run}
 use Rattle.block_rules.proofs.Rows.{passed, is, neither}
-use Rattle.block_rules.proofs.Grown.{named-partition}
 use Rattle.block_rules.proofs.Formatted.{format-sound}
 use Rattle.block_rules.proofs.steps.Access.{enter-sound, leave-sound, enable-sound}
 use Rattle.block_rules.proofs.steps.Cut.{cut-sound}

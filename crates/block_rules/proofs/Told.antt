@@ -16,8 +16,8 @@ use Rattle.block_memory.specs.Partition.{current, Partition, structure, field, 
 use Rattle.block_memory.specs.Bytes.{Live, HasByte}
 use Rattle.block_memory.specs.Sound.{Sound}
 use Rattle.block_soundness.proofs.Blocks.{used-as, block, number-some, after, long, same-end, ends-in}
-use Rattle.block_soundness.proofs.Once.{lends}
 use Rattle.block_soundness.proofs.Listing.{found, finds}
+use Rattle.block_soundness.proofs.Child.{lends, named-partition}
 use Rattle.block_rules.specs.Row.{first}
 use Rattle.block_rules.specs.Call.{serve, remove, find}
 use Rattle.block_rules.specs.Conditions.{unmerged, firstPieceNotInHand}
@@ -26,7 +26,6 @@ use Rattle.block_rules.specs.Calls.{noBlock, sixWords, isBlock, tells, r
 use Rattle.block_rules.specs.Found.{EveryFound}
 use Rattle.block_rules.specs.Unmerged.{EveryUnmerged}
 use Rattle.block_rules.proofs.Rows.{passed}
-use Rattle.block_rules.proofs.Grown.{named-partition}
 use Rattle.block_rules.proofs.Step.{whose, refusal-sound}
 
 -- ---- find

@@ -9,8 +9,8 @@ use native.Mathlib.Decide.{ℕ-discrete}
 use Rattle.block_memory.specs.Partition.{root, Partition, Has, used, child, link, previous, place}
 use Rattle.block_memory.specs.Bytes.{Live}
 use Rattle.block_memory.specs.Sound.{Sound, Slot, Use}
-use Rattle.block_soundness.proofs.Blocks.{before, after}
-use Rattle.block_soundness.proofs.Once.{up}
+use Rattle.block_soundness.proofs.Blocks.{used-as, first-in-root, before, after}
+use Rattle.block_soundness.proofs.Up.{up}
 use Rattle.block_rules.proofs.Keep.{this-or, Same}
 use Rattle.block_rules.proofs.Ground.{SourceStays, Beside, turned, still-on}
 use Rattle.block_rules.proofs.Grown.{KernelStays, Grown, words8, names}
@@ -57,7 +57,7 @@ module _ (m now : List ℕ) (s : Sound m) (f : Grown m now) (d b : ℕ) (p : Par
 
   this : Use now d b → Slot now d b
   this uses =
-      let l : Live m d b = record { partition = p; block = λ z. omega (arith, z, t .hand) } in
+      let l = used-as p (t .hand) in
       turned m now s (f .size) l (words8 m now s f d p) (λ g. same d b g l) (t .some) (t .known) uses (lent d b l) (beside d b l)
 
   -- a slot that was there, and whose words stay if it was free
@@ -74,12 +74,9 @@ module _ (m now : List ℕ) (s : Sound m) (f : Grown m now) (d b : ℕ) (p : Par
 
   -- ---- the root's block 8
 
-  root-block : Live m (root m) 8
-  root-block = record { partition = s .table .rootListed; block = s .structures (root m) (s .table .rootListed) .ofRoot refl .block }
-
   pub root-there : used now (root m) 8 ≢ 0
   root-there = this-or (λ u o. used now u o ≢ 0) d b (root m) 8 (t .some)
-      (λ n z. root-block .block (sym (t .others (root m) 8 3 root-block (omega arith) (λ (x, y, c, k). n (x, y))) ∙ z))
+      (λ n z. first-in-root m s .block (sym (t .others (root m) 8 3 (first-in-root m s) (omega arith) (λ (x, y, c, k). n (x, y))) ∙ z))
 
   pub root-first : previous now (root m) 8 ≡ 0
-  root-first = same (root m) 8 7 root-block (omega arith) (λ (x, y). omega arith) ∙ s .structures (root m) (s .table .rootListed) .ofRoot refl .first
+  root-first = same (root m) 8 7 (first-in-root m s) (omega arith) (λ (x, y). omega arith) ∙ s .structures (root m) (s .table .rootListed) .ofRoot refl .first

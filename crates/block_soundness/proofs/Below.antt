@@ -10,8 +10,9 @@ use Rattle.block_memory.specs.Tree.{Below, self, under}
 use Rattle.block_memory.specs.Bytes.{HasByte, Keeps}
 use Rattle.block_memory.specs.Sound.{Sound}
 use Rattle.block_soundness.proofs.Blocks.{used-as, block, number-some}
-use Rattle.block_soundness.proofs.Once.{other, up, up-byte, same-child, equal-level, deeper, once, above-first}
+use Rattle.block_soundness.proofs.Once.{equal-level, deeper, once}
 use Rattle.block_soundness.proofs.Records.{in-bytes, desc-in}
+use Rattle.block_soundness.proofs.Up.{other, up, up-byte, same-child, above-first}
 
 -- block n of d, lent to d's child of the number c, has the byte x
 pub record LentByte (m : List ℕ) (d c n x : ℕ) : Type 0 where

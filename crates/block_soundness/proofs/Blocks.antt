@@ -1,5 +1,5 @@
 -- A block of sound memory, and the blocks that it names. Assumes nothing.
-use mathlib.Core.Path.{_≡_, sym, ap, _∙_}
+use mathlib.Core.Path.{_≡_, refl, sym, ap, _∙_}
 use mathlib.Core.List.{List}
 use mathlib.Core.Logic.{_≢_}
 use Prim.Native.Nat.{ℕ, zero, suc, _+_, _*_, _≤_, _<_}
@@ -8,7 +8,7 @@ use native.Mathlib.Decide.{ℕ-discrete}
 use lib.ListN.{length}
 use borrow.Author.Tests.{eq-eqb}
 use Rattle.block_memory.specs.Geometry.{slotWords, leastBytes}
-use Rattle.block_memory.specs.Partition.{Partition, Has, field, start, end, used, source, previous, next}
+use Rattle.block_memory.specs.Partition.{root, Partition, Has, field, start, end, used, source, previous, next}
 use Rattle.block_memory.specs.Bytes.{Live}
 use Rattle.block_memory.specs.Sound.{Sound, Block, sourceStart, sourceEnd, sourceLink}
 use Rattle.block_soundness.proofs.Ranges.{has-range}
@@ -35,6 +35,10 @@ module _ (m : List ℕ) (s : Sound m) where
     partition = p;
     block = λ z. x (s .slots d n p (field-has m d n f x) .free z f h);
   }
+
+  -- the root's block 8
+  pub first-in-root : Live m (root m) 8
+  first-in-root = record { partition = s .table .rootListed; block = s .structures (root m) (s .table .rootListed) .ofRoot refl .block }
 
   pub long : {d n : ℕ} → Live m d n → start m d n + leastBytes ≤ end m d n
   long l = block l .form .long

@@ -12,7 +12,7 @@ use Rattle.block_memory.specs.Words.{word}
 use Rattle.block_memory.specs.Partition.{Partition, parent, level}
 use Rattle.block_memory.specs.Sound.{Sound}
 use Rattle.block_soundness.proofs.Ranges.{permitted?, table-has}
-use Rattle.block_soundness.proofs.Once.{other}
+use Rattle.block_soundness.proofs.Up.{other}
 
 -- ---- numbers below n with no repeat are n at most
 

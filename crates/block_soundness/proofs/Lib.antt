@@ -1,11 +1,16 @@
 pub mod Ranges
 pub mod Agree
 pub mod Whole
+pub mod Sources
 pub mod Blocks
+pub mod Up
+pub mod Child
 pub mod Once
 pub mod Levels
 pub mod Records
 pub mod Below
 pub mod Listing
 pub mod Sums
+pub mod Tally
+pub mod EachByte
 pub mod Counted

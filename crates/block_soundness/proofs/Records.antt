@@ -16,8 +16,10 @@ use Rattle.block_memory.specs.Partition.{root, Partition, parent, number, struc
 use Rattle.block_memory.specs.Bytes.{Live, HasByte, Keeps}
 use Rattle.block_memory.specs.Sound.{Sound}
 use Rattle.block_soundness.proofs.Ranges.{permitted?}
-use Rattle.block_soundness.proofs.Blocks.{block, number-some}
-use Rattle.block_soundness.proofs.Once.{once, above-first}
+use Rattle.block_soundness.proofs.Blocks.{used-as, block, number-some}
+use Rattle.block_soundness.proofs.Up.{above-first}
+use Rattle.block_soundness.proofs.Child.{named-own, named-child, named-partition}
+use Rattle.block_soundness.proofs.Once.{once}
 
 -- the descriptor of t, and structure k of t
 pub data Record : Type 0 where
@@ -78,12 +80,6 @@ module _ (m : List ℕ) where
     held : (h n : ℕ) → InBlock h n r → Home r
 
 module _ (m : List ℕ) (s : Sound m) where
-  pub named-own : (d c : ℕ) → c ≡ 0 → named m d c ≡ d
-  named-own d c e = ap (λ (t : Bool). cond t d (place m d c)) (eq-eqb c 0 e)
-
-  pub named-child : (d c : ℕ) → c ≢ 0 → named m d c ≡ place m d c
-  named-child d c h = ap (λ (t : Bool). cond t d (place m d c)) (ne-eqb c 0 h)
-
   standing-desc : (h n : ℕ) → used m h n ≡ 3 → standing m h n ≡ desc (place m h n)
   unfolding standing
   standing-desc h n e = ap (λ (b : Bool). cond b (desc (place m h n)) (struct (named m h (child m h n)) (link m h n))) (eq-eqb (used m h n) 3 e)
@@ -96,7 +92,7 @@ module _ (m : List ℕ) (s : Sound m) where
   pub desc-in : (t : ℕ) → Partition m t → t ≢ root m → InBlock m (parent m t) (number m t) (desc t)
   desc-in t p h =
       let o = s .descriptors t p .ofOther h in
-      let l : Live m (parent m t) (number m t) = record { partition = o .parentListed; block = λ z. omega (arith, z, o .stands) } in
+      let l = used-as (o .parentListed) (o .stands) in
       let u = block m s l .uses .use3 (o .stands) in
       record {
         alive = l;
@@ -121,6 +117,12 @@ module _ (m : List ℕ) (s : Sound m) where
         is = standing-struct h n e ∙ ap₂ (λ (x y : ℕ). struct x y) w i;
       }
 
+  -- .. of the partition that the block's child names
+  pub structure-of : (d n : ℕ) → Live m d n → used m d n ≡ 4 → Valid m (struct (named m d (child m d n)) (link m d n))
+  structure-of d n l e =
+      let h = block m s l .uses .use4 e in
+      (named-partition m s d (child m d n) (l .partition) (h .whose), λ w. omega (arith, w, h .there, above-first m s l))
+
   desc-home : (t : ℕ) → Partition m t → Home m (desc t)
   desc-home t p = elim (ℕ-discrete t (root m)) [ yes e ↦ first (ap desc e) | no h ↦ held (parent m t) (number m t) (desc-in t p h) ]
 
@@ -132,19 +134,17 @@ module _ (m : List ℕ) (s : Sound m) where
     in-own : word m (structure m t k + 1) ≡ 1 → Held t
     in-own e =
         let o = s .structures t p .others k z g .inOwn e in
-        (o .use4, struct-in t k t (word m (structure m t k)) (record { partition = p; block = λ w. omega (arith, w, o .use4) }) (o .use4) (o .linked) (named-own t _ (o .whose)))
+        (o .use4, struct-in t k t _ (used-as p (o .use4)) (o .use4) (o .linked) (named-own m s t _ (o .whose)))
 
     in-parent : word m (structure m t k + 1) ≢ 1 → Held (parent m t)
     in-parent e =
         let x = s .structures t p .others k z g in
         let o = x .inParent e in
         let d = s .descriptors t p .ofOther (λ r. e (x .ofRoot r)) in
-        let l : Live m (parent m t) (number m t) = record { partition = d .parentListed; block = λ w. omega (arith, w, d .stands) } in
+        let l = used-as (d .parentListed) (d .stands) in
         let w : named m (parent m t) (child m (parent m t) (word m (structure m t k))) ≡ t =
-        ap (λ (c : ℕ). named m (parent m t) c) (o .whose) ∙ named-child (parent m t) (number m t) (λ x. omega (arith, x, number-some m s l)) ∙ d .there in (
-          o .use4,
-          struct-in t k (parent m t) (word m (structure m t k)) (record { partition = d .parentListed; block = λ x. omega (arith, x, o .use4) }) (o .use4) (o .linked) w,
-        )
+        ap (named m (parent m t)) (o .whose) ∙ named-child m s (parent m t) (number m t) (λ x. omega (arith, x, number-some m s l)) ∙ d .there in
+        (o .use4, struct-in t k (parent m t) _ (used-as (d .parentListed) (o .use4)) (o .use4) (o .linked) w)
 
     pub struct-held : Held (holder m t (structure m t k))
     struct-held = elim (ℕ-discrete (word m (structure m t k + 1)) 1) [
@@ -166,17 +166,24 @@ module _ (m : List ℕ) (s : Sound m) where
 
   -- its words are bytes of that block
   pub in-bytes : {h n : ℕ} {r : Record} → InBlock m h n r → (i : ℕ) → i < words r → Keeps m h n (4 * (base m r + i))
-  in-bytes {h} {n} {r} b i j = record { has = record { live = b .alive; from = omega (arith, b .there); upTo = omega (arith, b .room) }; notLent = b .notLent }
+  in-bytes b i j = record { has = record { live = b .alive; from = omega (arith, b .there); upTo = omega (arith, b .room) }; notLent = b .notLent }
 
   root-first : structure m (root m) 1 ≡ root m + descriptorWords
   root-first = s .structures (root m) (s .table .rootListed) .ofRoot refl .at
 
   -- the kernel's own part lies below
-  own-low : (r q : Record) → r ≡ q → base m q + words q ≤ root m + descriptorWords + structureWords → base m r + words r ≤ root m + descriptorWords + structureWords
-  own-low r q e h = subst (λ (x : Record). base m x + words x ≤ root m + descriptorWords + structureWords) (sym e) h
+  abbrev Low : Record → Type 0
+  Low r = base m r + words r ≤ root m + descriptorWords + structureWords
+
+  own-low : (r q : Record) → r ≡ q → Low q → Low r
+  own-low r q e h = subst Low (sym e) h
 
   held-high : {h n : ℕ} {r : Record} → InBlock m h n r → root m + descriptorWords + structureWords ≤ base m r
   held-high {h} {n} {r} b = omega (arith, above-first m s (b .alive), b .there)
+
+  -- the root's first structure stands in no block
+  pub not-first : {h n t k : ℕ} → InBlock m h n (struct t k) → ¬ ((t ≡ root m) × (k ≡ 1))
+  not-first b (x, y) = omega (arith, held-high b, root-first, ap₂ (λ (u j : ℕ). structure m u j) x y)
 
   pub low : (r : Record) → Valid m r → root m ≤ base m r
   low r v = go (home r v)
@@ -200,21 +207,17 @@ module _ (m : List ℕ) (s : Sound m) where
   distinct : (r q : Record) (i j : ℕ) → Valid m r → Valid m q → i < words r → j < words q → base m r + i ≡ base m q + j → r ≡ q
   distinct r q i j v w a b e = go (home r v) (home q w)
     where
-      apart : (x y : Record) → r ≡ x → q ≡ y → base m x + words x ≤ base m y → r ≡ q
-      apart x y f g h =
-          let u : base m r + words r ≤ base m q = subst (λ (z : Record). base m z + words z ≤ base m q) (sym f) (subst (λ (z : Record). base m x + words x ≤ base m z) (sym g) h) in
-          absurd (omega arith)
-
-      apart' : (x y : Record) → r ≡ x → q ≡ y → base m y + words y ≤ base m x → r ≡ q
-      apart' x y f g h =
-          let u : base m q + words q ≤ base m r = subst (λ (z : Record). base m z + words z ≤ base m r) (sym g) (subst (λ (z : Record). base m y + words y ≤ base m z) (sym f) h) in
-          absurd (omega arith)
+      -- the root's descriptor ends where its first structure begins
+      at-root : (x y : Record) → x ≡ desc (root m) → y ≡ struct (root m) 1 → base m x + words x ≤ base m y
+      at-root x y f g =
+          subst (λ (z : Record). base m z + words z ≤ base m y) (sym f) (subst (λ (z : Record). root m + descriptorWords ≤ base m z) (sym g)
+          (omega (arith, root-first)))
 
       go : Home m r → Home m q → r ≡ q
       go (first f) (first g) = f ∙ sym g
-      go (first f) (second g) = apart (desc (root m)) (struct (root m) 1) f g (omega (arith, root-first))
+      go (first f) (second g) = absurd (omega (arith, at-root r q f g))
       go (first f) (held h n c) = absurd (omega (arith, own-low r (desc (root m)) f (omega arith), held-high c))
-      go (second f) (first g) = apart' (struct (root m) 1) (desc (root m)) f g (omega (arith, root-first))
+      go (second f) (first g) = absurd (omega (arith, at-root q r g f))
       go (second f) (second g) = f ∙ sym g
       go (second f) (held h n c) = absurd (omega (arith, own-low r (struct (root m) 1) f (omega (arith, root-first)), held-high c))
       go (held h n c) (first g) = absurd (omega (arith, own-low q (desc (root m)) g (omega arith), held-high c))
@@ -236,4 +239,6 @@ module _ (m : List ℕ) (s : Sound m) where
       go : Home m r → ⊥
       go (first e) = omega (arith, above-first m s (b .live), b .from, own-low r (desc (root m)) e (omega arith))
       go (second e) = omega (arith, above-first m s (b .live), b .from, own-low r (struct (root m) 1) e (omega (arith, root-first)))
-      go (held h o c) = let (x, y) = once m s d h n o (4 * (base m r + i)) hand (in-bytes c i a) in c .notHand (sym (ap₂ (λ (u t : ℕ). used m u t) x y) ∙ z)
+      go (held h o c) =
+          let (x, y) = once m s d h n o (4 * (base m r + i)) hand (in-bytes c i a) in
+          c .notHand (sym (ap₂ (λ (u t : ℕ). used m u t) x y) ∙ z)

@@ -13,13 +13,13 @@ use Rattle.block_memory.specs.Partition.{root, current, Partition, parent, entr
 use Rattle.block_memory.specs.Sound.{Sound, Entries}
 use Rattle.block_memory.proofs.Lowest.{entry-found, entry-missing}
 use Rattle.block_soundness.proofs.Ranges.{entry-range}
+use Rattle.block_soundness.proofs.Child.{child-of}
 use Rattle.block_rules.specs.Effects.{disable, enableIn}
 use Rattle.block_rules.proofs.EntryWrite.{EntryPut, entry-put}
 use Rattle.block_rules.proofs.CurrentWrite.{current-now, current-frame, current-entries, current-fields}
 use Rattle.block_rules.proofs.Disabled.{fewer, disabled}
 use Rattle.block_rules.proofs.Framed.{placed}
 use Rattle.block_rules.proofs.Kept.{fields-stay, fewer-entries, fewer-sound}
-use Rattle.block_rules.proofs.Child.{child-of}
 
 module _ (m : List ℕ) (s : Sound m) where
   -- ---- enter, leave

@@ -11,7 +11,9 @@ use Rattle.block_memory.specs.Partition.{root, Partition, parent, Has, field, p
 use Rattle.block_memory.specs.Bytes.{Live}
 use Rattle.block_memory.specs.Sound.{Sound, Slot, Use}
 use Rattle.block_memory.proofs.Lowest.{free-number}
-use Rattle.block_soundness.proofs.Blocks.{block, field-has}
+use Rattle.block_soundness.proofs.Blocks.{used-as, block, field-has}
+use Rattle.block_soundness.proofs.Child.{ChildOf, child-of}
+use Rattle.block_soundness.proofs.Sources.{source-start, source-end, source-link}
 use Rattle.block_rules.specs.Effects.{takeAs, addTo}
 use Rattle.block_rules.proofs.Frame.{Placed, Frame, root-same}
 use Rattle.block_rules.proofs.Trail.{trail, Wrote, wrote}
@@ -19,7 +21,6 @@ use Rattle.block_rules.proofs.Keep.{this-or, block-slot, Same}
 use Rattle.block_rules.proofs.Grown.{KernelStays}
 use Rattle.block_rules.proofs.Framed.{placed, grown, framed, parent-same, number-same}
 use Rattle.block_rules.proofs.Kept.{entries-off}
-use Rattle.block_rules.proofs.Child.{ChildOf, child-of, not-root}
 use Rattle.block_rules.proofs.Uses.{in-hand, is-lent}
 use Rattle.block_rules.proofs.Taken.{Taken, take}
 use Rattle.block_rules.proofs.Turned as T
@@ -49,7 +50,7 @@ module _ (m : List ℕ) (s : Sound m) (d c b r : ℕ) (p : Partition m d) (stand
   kid = child-of m s d c p stands
 
   live-b : Live m d b
-  live-b = record { partition = p; block = λ z. omega (arith, z, hand) }
+  live-b = used-as p hand
 
   added : Wrote m m t n 0 new
   added = wrote q (trail m q) (kid .listed) (omega arith)
@@ -120,11 +121,11 @@ module _ (m : List ℕ) (s : Sound m) (d c b r : ℕ) (p : Partition m d) (stand
         };
         pieces = record {
           first = λ e. (
-            is-new 0 (omega arith) ∙ sym (not-root t (root now) _ _ not-root-now ∙ of-source 0 ∙ b-same 0 (omega arith) (λ (y, w). omega arith)),
-            not-root t (root now) _ _ not-root-now ∙ of-source 5 ∙ taken .changed 2 (omega arith),
+            is-new 0 (omega arith) ∙ sym (source-start now t n not-root-now ∙ of-source 0 ∙ b-same 0 (omega arith) (λ (y, w). omega arith)),
+            source-link now t n not-root-now ∙ of-source 5 ∙ taken .changed 2 (omega arith),
           );
           later = λ e. absurd (e (is-new 7 (omega arith)));
-          last = λ e. is-new 1 (omega arith) ∙ sym (not-root t (root now) _ _ not-root-now ∙ of-source 1 ∙ b-same 1 (omega arith) (λ (y, w). omega arith));
+          last = λ e. is-new 1 (omega arith) ∙ sym (source-end now t n not-root-now ∙ of-source 1 ∙ b-same 1 (omega arith) (λ (y, w). omega arith));
           more = λ e. absurd (e (is-new 8 (omega arith)));
         };
       })
@@ -134,7 +135,7 @@ module _ (m : List ℕ) (s : Sound m) (d c b r : ℕ) (p : Partition m d) (stand
   uses : Use now d b
   uses =
       let c-same : (g : ℕ) → g < 7 → Same m now d c g = λ g.
-      kernel d c g (record { partition = p; block = λ z. omega (arith, z, stands) }) (omega (arith, stands)) in
+      kernel d c g (used-as p stands) (omega (arith, stands)) in
       let at : place now d (child now d b) ≡ t = ap (place now d) (taken .changed 1 (omega arith)) ∙ ap wordFrom (c-same 0 (omega arith)) in
       is-lent (taken .changed 0 (omega arith)) (record {
         toChild = ap (used now d) (taken .changed 1 (omega arith)) ∙ c-same 3 (omega arith) ∙ stands;

@@ -14,7 +14,7 @@ use Rattle.block_memory.specs.Sound.{Sound}
 use Rattle.block_memory.proofs.Lookups.{structure-at, structure-same}
 use Rattle.block_memory.proofs.Lowest.{empty-structure}
 use Rattle.block_soundness.proofs.Ranges.{structure-range}
-use Rattle.block_soundness.proofs.Blocks.{field-has}
+use Rattle.block_soundness.proofs.Blocks.{used-as, field-has, first-in-root}
 use Rattle.block_soundness.proofs.Once.{once}
 use Rattle.block_soundness.proofs.Records.{Record, desc, struct, desc-is, struct-is, not-desc, not-struct, words, owner, base, Valid, InBlock}
 use Rattle.block_soundness.proofs.Records.{standing-struct, in-bytes, struct-in, struct-held}
@@ -55,10 +55,7 @@ module _ (m : List ℕ) (s : Sound m) (t : ℕ) (pt : Partition m t) (some : emp
   not-in {u} {o} l (x, y) = l .block (ap (λ (z : ℕ). used m z o) x ∙ empty-structure m t some .1 o y)
 
   not-first : ¬ ((t ≡ root m) × (k ≡ 1))
-  not-first (x, y) =
-      let r = s .table .rootListed in
-      let l : Live m (root m) 8 = record { partition = r; block = s .structures (root m) r .ofRoot refl .block } in
-      not-in l (sym x, sym y)
+  not-first (x, y) = not-in (first-in-root m s) (sym x, sym y)
 
   use-h : used m h n ≡ 4
   use-h = struct-held m s t k pt there not-first .0
@@ -139,7 +136,7 @@ module _ (m : List ℕ) (s : Sound m) (t : ℕ) (pt : Partition m t) (some : emp
   only-h u o v (lent e g) = absurd (not-struct g)
   only-h u o v (holdsDescriptor e g) = absurd (not-struct g)
   only-h u o v (holdsStructure e g) =
-      let l : Live m u o = record { partition = v; block = λ z. omega (arith, z, e) } in
+      let l = used-as v e in
       let (x, y) = struct-is g in
       once m s u h o n _ (in-bytes m s (struct-in m s t k u o l e y x) 0 (omega arith)) (in-bytes m s in-h 0 (omega arith))
 

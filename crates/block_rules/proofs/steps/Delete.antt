@@ -16,17 +16,17 @@ use Rattle.block_memory.specs.Tree.{Below, self, under}
 use Rattle.block_memory.specs.Bytes.{Live, HasByte}
 use Rattle.block_memory.specs.Sound.{Sound}
 use Rattle.block_soundness.proofs.Ranges.{table-has, has-range}
-use Rattle.block_soundness.proofs.Blocks.{block, field-has, number-some}
-use Rattle.block_soundness.proofs.Records.{Record, desc, struct, struct-is, not-struct, owner, named-own, named-child}
+use Rattle.block_soundness.proofs.Blocks.{used-as, block, field-has, number-some}
+use Rattle.block_soundness.proofs.Records.{Record, desc, struct, struct-is, not-struct, owner}
 use Rattle.block_soundness.proofs.Below.{LentByte, below-byte, byte-below, not-caller}
 use Rattle.block_soundness.proofs.Listing.{listed, in-list, listed-once, found, finds}
+use Rattle.block_soundness.proofs.Child.{named-own, named-child, ChildOf, child-of}
 use Rattle.block_rules.specs.Effects.{ofChild, goesWith, wipePartition, giveBack, deleteChild}
 use Rattle.block_rules.specs.Deleted as Specs
 use Rattle.block_rules.specs.Deleted.{OfChild, Deleted}
 use Rattle.block_rules.proofs.Frame.{Placed}
 use Rattle.block_rules.proofs.SlotWrite.{inStructure}
 use Rattle.block_rules.proofs.Framed.{placed}
-use Rattle.block_rules.proofs.Child.{ChildOf, child-of}
 use Rattle.block_rules.proofs.Leaving.{backWords, Back, lent, holdsDescriptor, holdsStructure, Leaving, back-some, kid-back}
 use Rattle.block_rules.proofs.Shrunk.{Shrunk, fields, same, given, to, back, shrunk-sound}
 use Rattle.block_rules.proofs.Wiped.{Wiped, all-wiped}
@@ -43,7 +43,7 @@ module _ (m : List ℕ) (s : Sound m) (d c : ℕ) (p : Partition m d) (stands : 
   q = placed m s
 
   live-c : Live m d c
-  live-c = record { partition = p; block = λ z. omega (arith, z, stands) }
+  live-c = used-as p stands
 
   -- ---- the partitions that go
 
@@ -121,15 +121,13 @@ module _ (m : List ℕ) (s : Sound m) (d c : ℕ) (p : Partition m d) (stands : 
     where
       which : Back m Gone u o → (u ≡ d) × ((o ≡ c) ⊎ (child m u o ≡ c))
       which (lent e g) =
-          let l : Live m u o = record { partition = v; block = λ z. omega (arith, z, e) } in
-          let (x, y) = only-c u (child m u o) v w (block m s l .uses .use2 e .toChild) g in
+          let (x, y) = only-c u (child m u o) v w (block m s (used-as v e) .uses .use2 e .toChild) g in
           (x, inr y)
       which (holdsDescriptor e g) = let (x, y) = only-c u o v w e g in (x, inl y)
       which (holdsStructure e g) = elim (ℕ-discrete (child m u o) 0) [
         | yes z ↦ absurd (w (subst (Below m t) (named-own m s u _ z) g))
         | no z ↦
-            let l : Live m u o = record { partition = v; block = λ w. omega (arith, w, e) } in
-            let (x, y) = only-c u (child m u o) v w (block m s l .uses .use4 e .whose z) (subst (Below m t) (named-child m s u _ z) g) in
+            let (x, y) = only-c u (child m u o) v w (block m s (used-as v e) .uses .use4 e .whose z) (subst (Below m t) (named-child m s u _ z) g) in
             (x, inr y)
       ]
 

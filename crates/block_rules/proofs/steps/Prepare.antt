@@ -18,14 +18,15 @@ use Rattle.block_memory.proofs.Lists.{after-two}
 use Rattle.block_memory.proofs.Lookups.{structure-at, field-at}
 use Rattle.block_memory.proofs.Lowest.{free-structure}
 use Rattle.block_soundness.proofs.Ranges.{table-has}
-use Rattle.block_soundness.proofs.Records.{Record, desc, words, base, Valid, low, layout, named-own, named-child}
+use Rattle.block_soundness.proofs.Blocks.{used-as}
+use Rattle.block_soundness.proofs.Records.{Record, desc, desc-is, words, base, Valid, low, layout}
+use Rattle.block_soundness.proofs.Child.{named-own, named-child, named-partition, ChildOf, child-of}
 use Rattle.block_rules.specs.Effects.{prepareFor}
 use Rattle.block_rules.proofs.SlotWrite.{inStructure}
 use Rattle.block_rules.proofs.Keep.{this-or, wiped-slot, Same, named-same}
 use Rattle.block_rules.proofs.Ground.{root-now, parent-on, number-on}
-use Rattle.block_rules.proofs.Grown.{named-partition, words8}
+use Rattle.block_rules.proofs.Grown.{words8}
 use Rattle.block_rules.proofs.Framed.{permitted-now}
-use Rattle.block_rules.proofs.Child.{ChildOf, child-of}
 use Rattle.block_rules.proofs.Uses.{holds-structure}
 use Rattle.block_rules.proofs.Room.{above-own, clear-of}
 use Rattle.block_rules.proofs.Laid.{Spare, Unused, Laid, entered, lay}
@@ -98,9 +99,6 @@ module _ (m : List ℕ) (s : Sound m) (d c b : ℕ) (p : Partition m d) (stands 
 
   structure-other : (u o : ℕ) → Partition m u → ¬ ((u ≡ t) × (o ≡ k)) → structure now u o ≡ structure m u o
   structure-other u o v n = laid .structures u o v (λ x y e. let (f, g) = at-j (desc u) v (15 + o) (omega arith) e in n (desc-is f, omega arith))
-    where
-      desc-is : desc u ≡ desc t → u ≡ t
-      desc-is f = cc
 
   new-word : (i : ℕ) → i < 74 → word now (i₀ + i) ≡ getD new i 0
   new-word i h = laid .filled i h (λ e.
@@ -150,7 +148,7 @@ module _ (m : List ℕ) (s : Sound m) (d c b : ℕ) (p : Partition m d) (stands 
       let at : place now d b ≡ i₀ = ap wordFrom (laid .starts) in
       let cs : child now d b ≡ c = laid .changed 1 (omega arith) in
       let kid : c ≢ 0 → (g : ℕ) → g < 7 → Same m now d c g = λ h g i.
-      old .kernel d c g (record { partition = p; block = λ z. omega (arith, z, stands h) }) (omega (arith, stands h)) i in
+      old .kernel d c g (used-as p (stands h)) (omega (arith, stands h)) i in
       let whom : named now d (child now d b) ≡ t = ap (named now d) cs ∙ named-same m now d c (λ h. kid h 0 (omega arith)) in
       holds-structure (laid .changed 0 (omega arith)) (record {
         whose = λ h. let h' : c ≢ 0 = λ y. h (cs ∙ y) in ap (used now d) cs ∙ kid h' 3 (omega arith) ∙ stands h';

@@ -9,8 +9,10 @@ use lib.ListN.{getD}
 use Rattle.block_memory.specs.Partition.{root, Partition, parent, number, entry, Has, field, start, end, used, child, link, source, previous, next, place}
 use Rattle.block_memory.specs.Bytes.{Live}
 use Rattle.block_memory.specs.Sound.{Sound, Slot}
-use Rattle.block_soundness.proofs.Blocks.{block, field-has, number-some, before, after, long, Apart, equal, below, above, apart, starts-in, ends-in}
-use Rattle.block_soundness.proofs.Once.{up, same-child, source-start, source-end}
+use Rattle.block_soundness.proofs.Blocks.{used-as, block, field-has, number-some, before, after, long, Apart, equal, below, above, apart, starts-in, ends-in}
+use Rattle.block_soundness.proofs.Up.{up, same-child}
+use Rattle.block_soundness.proofs.Sources.{source-start, source-end}
+use Rattle.block_soundness.proofs.Child.{ChildOf, child-of}
 use Rattle.block_rules.specs.Effects.{disable, giveBack, freeSlot, removeFrom}
 use Rattle.block_rules.proofs.Frame.{Placed, Frame}
 use Rattle.block_rules.proofs.Trail.{trail, Wrote, wrote}
@@ -19,7 +21,6 @@ use Rattle.block_rules.proofs.Ground.{SourceStays, Beside, given-back}
 use Rattle.block_rules.proofs.Grown.{KernelStays, words8}
 use Rattle.block_rules.proofs.Framed.{placed, grown, framed}
 use Rattle.block_rules.proofs.Kept.{first-piece, unwritten-stays, entries-off}
-use Rattle.block_rules.proofs.Child.{ChildOf, child-of}
 use Rattle.block_rules.proofs.Freed.{Freed, free}
 
 module _ (m : List ℕ) (s : Sound m) (d c b : ℕ) (p : Partition m d) (stands : used m d c ≡ 3) (lends : used m d b ≡ 2) (to-c : child m d b ≡ c)
@@ -46,10 +47,10 @@ module _ (m : List ℕ) (s : Sound m) (d c b : ℕ) (p : Partition m d) (stands 
   kid = child-of m s d c p stands
 
   live-b : Live m d b
-  live-b = record { partition = p; block = λ z. omega (arith, z, lends) }
+  live-b = used-as p lends
 
   live-n : Live m t n
-  live-n = record { partition = kid .listed; block = λ z. omega (arith, z, hand) }
+  live-n = used-as (kid .listed) hand
 
   -- ---- the words afterwards
 
@@ -88,13 +89,13 @@ module _ (m : List ℕ) (s : Sound m) (d c b : ℕ) (p : Partition m d) (stands 
 
   -- the source of a block of t that came from b
   piece-end : (o : ℕ) → Live m t o → source m t o ≡ b → end m t o ≤ end m d b
-  piece-end o l e = omega (arith, ends-in m s l, source-end m s t o (kid .notRoot), ap₂ (λ (x y : ℕ). end m x y) (kid .parentWord) e)
+  piece-end o l e = omega (arith, ends-in m s l, source-end m t o (kid .notRoot), ap₂ (λ (x y : ℕ). end m x y) (kid .parentWord) e)
 
   piece-start : (o : ℕ) → Live m t o → source m t o ≡ b → start m d b ≤ start m t o
-  piece-start o l e = omega (arith, starts-in m s l, source-start m s t o (kid .notRoot), ap₂ (λ (x y : ℕ). start m x y) (kid .parentWord) e)
+  piece-start o l e = omega (arith, starts-in m s l, source-start m t o (kid .notRoot), ap₂ (λ (x y : ℕ). start m x y) (kid .parentWord) e)
 
   start-n : start m t n ≡ start m d b
-  start-n = block m s live-n .pieces .first first-n .0 ∙ source-start m s t n (kid .notRoot) ∙ ap₂ (λ (x y : ℕ). start m x y) (kid .parentWord) source-n
+  start-n = block m s live-n .pieces .first first-n .0 ∙ source-start m t n (kid .notRoot) ∙ ap₂ (λ (x y : ℕ). start m x y) (kid .parentWord) source-n
 
   last-n : next m t n ≡ 0
   last-n = elim (ℕ-discrete (next m t n) 0) [
