@@ -13,10 +13,10 @@ use Rattle.block_memory.specs.Partition.{root, current, Partition, parent, numb
 use Rattle.block_memory.specs.Partition.{place, named}
 use Rattle.block_memory.specs.Bytes.{Live}
 use Rattle.block_memory.specs.Sound.{Sound, Header, Descriptor, StandsIn, Structure, RootStructure, Slot, Use, Source, Pieces}
-use Rattle.block_soundness.proofs.Blocks.{block}
+use Rattle.block_soundness.proofs.Blocks.{block, before, after}
 use Rattle.block_rules.proofs.Keep.{Front, Back, pieces-of, block-slot, wiped-slot, Same, FirstStays, PriorStays, LaterStays, Was}
 use Rattle.block_rules.proofs.Uses.{in-hand}
-use Rattle.block_rules.proofs.Keep.{form-kept, use-kept, source-from, front-from, back-from}
+use Rattle.block_rules.proofs.Keep.{later-from, form-kept, use-kept, source-from, front-from, back-from}
 
 module _ (m m' : List ℕ) (s : Sound m) (size : length m' ≡ length m) where
   pub root-now : root m' ≡ root m
@@ -36,12 +36,15 @@ module _ (m m' : List ℕ) (s : Sound m) (size : length m' ≡ length m) where
 
   -- ---- 3
 
+  zero-on : (i : ℕ) → word m' (i + 0) ≡ word m (i + 0) → word m' i ≡ word m i
+  zero-on i e = ap (word m') (sym (add-zero i)) ∙ e ∙ ap (word m) (add-zero i)
+
   -- the first eight words of d's descriptor
   abbrev pub Words8 : ℕ → Type 0
   Words8 d = (i : ℕ) → i < 8 → word m' (d + i) ≡ word m (d + i)
 
   pub parent-on : (d : ℕ) → Words8 d → parent m' d ≡ parent m d
-  parent-on d w = ap (word m') (sym (add-zero d)) ∙ w 0 (omega arith) ∙ ap (word m) (add-zero d)
+  parent-on d w = zero-on d (w 0 (omega arith))
 
   pub number-on : (d : ℕ) → Words8 d → number m' d ≡ number m d
   number-on d w = w 1 (omega arith)
@@ -83,33 +86,41 @@ module _ (m m' : List ℕ) (s : Sound m) (size : length m' ≡ length m) where
 
   -- ---- 5
 
+  -- the first two words of the structure at index i
+  abbrev pub Words2 : ℕ → Type 0
+  Words2 i = (g : ℕ) → g < 2 → word m' (i + g) ≡ word m (i + g)
+
   abbrev pub Held : ℕ → ℕ → Type 0
   Held h n = Same m m' h n 3 × Same m m' h n 4 × Same m m' h n 5
 
   stands-on : (h n c k : ℕ) → Held h n → StandsIn m h n c k → StandsIn m' h n c k
   stands-on h n c k (a, b, e) x = record { use4 = a ∙ x .use4; linked = e ∙ x .linked; whose = b ∙ x .whose }
 
-  pub structure-on : (d k i : ℕ) → Structure m d k i → Words8 d → word m' i ≡ word m i → word m' (i + 1) ≡ word m (i + 1)
+  pub structure-on : (d k i : ℕ) → Structure m d k i → Words8 d → Words2 i
       → (word m (i + 1) ≡ 1 → Held d (word m i)) → (word m (i + 1) ≢ 1 → Held (parent m d) (word m i)) → Structure m' d k i
-  structure-on d k i o w a b own par = record {
-    own = omega (arith, b, o .own);
-    ofRoot = λ e. b ∙ o .ofRoot (e ∙ root-now);
-    inOwn = λ e. subst (λ (x : ℕ). StandsIn m' d x 0 k) (sym a) (stands-on d _ 0 k (own (sym b ∙ e)) (o .inOwn (sym b ∙ e)));
-    inParent = λ e.
-        let e' : word m (i + 1) ≢ 1 = λ z. e (b ∙ z) in
-        subst (λ (y : ℕ). StandsIn m' (parent m' d) (word m' i) y k) (sym (number-on d w))
-        (subst (λ (y : ℕ). StandsIn m' y (word m' i) (number m d) k) (sym (parent-on d w))
-        (subst (λ (y : ℕ). StandsIn m' (parent m d) y (number m d) k) (sym a) (stands-on (parent m d) _ (number m d) k (par e') (o .inParent e'))));
-  }
+  structure-on d k i o w two own par =
+      let a = zero-on i (two 0 (omega arith)) in
+      let b = two 1 (omega arith) in
+      record {
+        own = omega (arith, b, o .own);
+        ofRoot = λ e. b ∙ o .ofRoot (e ∙ root-now);
+        inOwn = λ e. subst (λ (x : ℕ). StandsIn m' d x 0 k) (sym a) (stands-on d _ 0 k (own (sym b ∙ e)) (o .inOwn (sym b ∙ e)));
+        inParent = λ e.
+            let e' : word m (i + 1) ≢ 1 = λ z. e (b ∙ z) in
+            subst (λ (y : ℕ). StandsIn m' (parent m' d) (word m' i) y k) (sym (number-on d w))
+            (subst (λ (y : ℕ). StandsIn m' y (word m' i) (number m d) k) (sym (parent-on d w))
+            (subst (λ (y : ℕ). StandsIn m' (parent m d) y (number m d) k) (sym a) (stands-on (parent m d) _ (number m d) k (par e') (o .inParent e'))));
+      }
 
-  pub root-structure-on : structure m' (root m) 1 ≡ structure m (root m) 1 → word m' (root m + 32) ≡ word m (root m + 32)
-      → word m' (root m + 32 + 1) ≡ word m (root m + 32 + 1) → used m' (root m) 8 ≢ 0 → previous m' (root m) 8 ≡ 0 → RootStructure m'
-  root-structure-on at w0 w1 b8 p8 =
+  pub root-structure-on : structure m' (root m) 1 ≡ structure m (root m) 1 → Words2 (structure m (root m) 1) → used m' (root m) 8 ≢ 0
+      → previous m' (root m) 8 ≡ 0 → RootStructure m'
+  root-structure-on at two b8 p8 =
       let o = s .structures (root m) (s .table .rootListed) .ofRoot refl in
+      let w : Words2 (root m + 32) = subst Words2 (o .at) two in
       record {
         at = ap (λ (x : ℕ). structure m' x 1) root-now ∙ at ∙ o .at ∙ ap (λ (x : ℕ). x + 32) (sym root-now);
-        word0 = ap (λ (x : ℕ). word m' (x + 32)) root-now ∙ w0 ∙ o .word0;
-        word1 = ap (λ (x : ℕ). word m' (x + 32 + 1)) root-now ∙ w1 ∙ o .word1;
+        word0 = ap (λ (x : ℕ). word m' (x + 32)) root-now ∙ zero-on (root m + 32) (w 0 (omega arith)) ∙ o .word0;
+        word1 = ap (λ (x : ℕ). word m' (x + 32 + 1)) root-now ∙ w 1 (omega arith) ∙ o .word1;
         block = λ y. b8 (ap (λ (x : ℕ). used m' x 8) (sym root-now) ∙ y);
         first = ap (λ (x : ℕ). previous m' x 8) root-now ∙ p8;
       }
@@ -122,8 +133,7 @@ module _ (m m' : List ℕ) (s : Sound m) (size : length m' ≡ length m) where
     pub first : FirstStays m m' d n
     pub desc : used m d n ≡ 3 → Partition m' (place m d n) × Words8 (place m d n)
     pub struct : used m d n ≡ 4
-        → (structure m' (named m d (child m d n)) (link m d n) ≡ structure m (named m d (child m d n)) (link m d n))
-        × (word m' (place m d n) ≡ word m (place m d n)) × (word m' (place m d n + 1) ≡ word m (place m d n + 1))
+        → (structure m' (named m d (child m d n)) (link m d n) ≡ structure m (named m d (child m d n)) (link m d n)) × Words2 (place m d n)
 
   -- the words of the source that sentences 8 and 9 look at
   abbrev pub SourceStays : ℕ → ℕ → Type 0
@@ -140,7 +150,7 @@ module _ (m m' : List ℕ) (s : Sound m) (size : length m' ≡ length m) where
       kid = k .kid;
       first = k .first;
       desc = λ u. let (x, w) = k .desc u in (x, parent-on _ w, number-on _ w);
-      struct = k .struct;
+      struct = λ u. let (x, w) = k .struct u in (x, zero-on _ (w 0 (omega arith)), w 1 (omega arith));
     }) (block m s l .uses)
 
     module _ (w : Words8 d) (o : ℕ) (sources : Was m m' d o n 6) (lent : SourceStays d n) where
@@ -161,6 +171,12 @@ module _ (m m' : List ℕ) (s : Sound m) (size : length m' ≡ length m) where
     pub record Beside : Type 0 where
       pub prior : PriorStays m m' d n
       pub later : LaterStays m m' d n
+
+    pub beside-on : ((o g : ℕ) → Live m d o → g < 9 → ¬ ((3 ≤ g) × (g < 6)) → Same m m' d o g) → Beside
+    beside-on same = record {
+      prior = λ z. same _ 8 (before m s l z .alive) (omega arith) (omega arith);
+      later = later-from m m' d n (λ z g (i, j, h). same _ g (after m s l z) (omega arith) h);
+    }
 
     -- where words 0, 1, 2, 6 and 8 stay
     module _ (w : Words8 d) (same : (g : ℕ) → (g < 9) × ¬ ((3 ≤ g) × (g < 6)) × (g ≢ 7) → Same m m' d n g) (lent : SourceStays d n) where

@@ -15,7 +15,7 @@ use Rattle.block_memory.specs.Sound.{Sound, Descriptor, Structure, RootStructur
 use Rattle.block_soundness.proofs.Blocks.{block}
 use Rattle.block_soundness.proofs.Records.{structure-of}
 use Rattle.block_rules.proofs.Keep.{Same, FirstStays}
-use Rattle.block_rules.proofs.Ground.{Words8, descriptor-on, Held, structure-on, root-structure-on, Named}
+use Rattle.block_rules.proofs.Ground.{Words8, Words2, descriptor-on, Held, structure-on, root-structure-on, Named}
 
 -- blocks with use 3 or 4 keep their words 0 to 6
 abbrev pub KernelStays : List ℕ → List ℕ → Type 0
@@ -32,8 +32,8 @@ module _ (m m' : List ℕ) (s : Sound m) (f : Grown m m') where
   pub words8 : (d : ℕ) → Partition m d → Words8 m m' s (f .size) d
   words8 d p i h = f .words d i p h
 
-  word0-same : (d k : ℕ) → Partition m d → structure m d k ≢ 0 → word m' (structure m d k) ≡ word m (structure m d k)
-  word0-same d k p z = ap (word m') (sym (add-zero (structure m d k))) ∙ f .two d k 0 p z (omega arith) ∙ ap (word m) (add-zero (structure m d k))
+  words2 : (d k : ℕ) → Partition m d → structure m d k ≢ 0 → Words2 m m' s (f .size) (structure m d k)
+  words2 d k p z i h = f .two d k i p z h
 
   module _ (kernel : KernelStays m m') where
     kernel-use : (d n g u : ℕ) → Partition m d → used m d n ≡ u → 3 ≤ u → g < 7 → Same m m' d n g
@@ -56,7 +56,7 @@ module _ (m m' : List ℕ) (s : Sound m) (f : Grown m m') where
     structure-kept d k p z g =
         let o = s .structures d p .others k z g in
         subst (λ (x : ℕ). Structure m' d k x) (sym (f .structures d k p z))
-        (structure-on m m' s (f .size) d k (structure m d k) o (words8 d p) (word0-same d k p z) (f .two d k 1 p z (omega arith))
+        (structure-on m m' s (f .size) d k (structure m d k) o (words8 d p) (words2 d k p z)
         (λ e. held d _ p (o .inOwn e .use4))
         (λ e. held (parent m d) _ (s .descriptors d p .ofOther (λ r. e (o .ofRoot r)) .parentListed) (o .inParent e .use4)))
 
@@ -65,10 +65,7 @@ module _ (m m' : List ℕ) (s : Sound m) (f : Grown m m') where
         let r = s .table .rootListed in
         let o = s .structures (root m) r .ofRoot refl in
         let z : structure m (root m) 1 ≢ 0 = λ w. omega (arith, w, o .at) in
-        root-structure-on m m' s (f .size) (f .structures (root m) 1 r z)
-        (ap (word m') (sym (o .at)) ∙ word0-same (root m) 1 r z ∙ ap (word m) (o .at))
-        (ap (λ (x : ℕ). word m' (x + 1)) (sym (o .at)) ∙ f .two (root m) 1 1 r z (omega arith) ∙ ap (λ (x : ℕ). word m (x + 1)) (o .at))
-        b8 p8
+        root-structure-on m m' s (f .size) (f .structures (root m) 1 r z) (words2 (root m) 1 r z) b8 p8
 
     -- what a block of use 2, 3 or 4 names, but for the first piece
     pub names : (d n : ℕ) → Live m d n → FirstStays m m' d n → Named m m' s (f .size) d n
@@ -77,10 +74,6 @@ module _ (m m' : List ℕ) (s : Sound m) (f : Grown m m') where
       first = first;
       desc = λ u. let h = block m s l .uses .use3 u .listed in (f .to h, words8 (place m d n) h);
       struct = λ u.
-          let h = block m s l .uses .use4 u in
-          let (p, z) = structure-of m s d n l u in (
-            f .structures _ _ p z,
-            ap (word m') (sym (h .there)) ∙ word0-same _ _ p z ∙ ap (word m) (h .there),
-            ap (λ (x : ℕ). word m' (x + 1)) (sym (h .there)) ∙ f .two _ _ 1 p z (omega arith) ∙ ap (λ (x : ℕ). word m (x + 1)) (h .there),
-          );
+          let (p, z) = structure-of m s d n l u in
+          (f .structures _ _ p z, subst (Words2 m m' s (f .size)) (block m s l .uses .use4 u .there) (words2 _ _ p z));
     }

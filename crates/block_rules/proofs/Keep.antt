@@ -3,7 +3,7 @@ use mathlib.Core.Path.{_≡_, refl, sym, ap, ap₂, _∙_, subst}
 use mathlib.Core.List.{List}
 use mathlib.Core.Bool.{cond}
 use mathlib.Core.Logic.{_≢_}
-use Prim.Native.Nat.{ℕ, _+_, _*_, _/_, _<_}
+use Prim.Native.Nat.{ℕ, _+_, _*_, _/_, _≤_, _<_}
 use native.Mathlib.Omega.{arith}
 use native.Mathlib.Decide.{ℕ-discrete}
 use lib.Bits.{bitAnd}
@@ -56,6 +56,9 @@ module _ (m m' : List ℕ) where
 
   abbrev pub LaterStays : ℕ → ℕ → Type 0
   LaterStays d n = next m d n ≢ 0 → Same d (next m d n) 0 × Same d (next m d n) 2 × Same d (next m d n) 6 × Same d (next m d n) 7
+
+  pub later-from : (d n : ℕ) → (next m d n ≢ 0 → (g : ℕ) → (g < 8) × (g ≢ 1) × ¬ ((3 ≤ g) × (g < 6)) → Same d (next m d n) g) → LaterStays d n
+  later-from d n same z = (same z 0 (omega arith), same z 2 (omega arith), same z 6 (omega arith), same z 7 (omega arith))
 
   -- ---- 6
 

@@ -14,7 +14,7 @@ use Rattle.block_soundness.proofs.Child.{lends}
 use Rattle.block_rules.proofs.Frame.{Frame}
 use Rattle.block_rules.proofs.EntryWrite.{SameFields}
 use Rattle.block_rules.proofs.Disabled.{FewerEntries}
-use Rattle.block_rules.proofs.Keep.{Front, Back, Same, FirstStays, PriorStays, LaterStays, Was}
+use Rattle.block_rules.proofs.Keep.{Front, Back, Same, FirstStays, PriorStays, LaterStays, later-from, Was}
 use Rattle.block_rules.proofs.Ground.{Words8, Named, SourceStays, source-on, front-on, back-on, slot-behind, slot-on, free-on, still-on}
 use Rattle.block_rules.proofs.Grown.{KernelStays, words8, names}
 use Rattle.block_rules.proofs.Framed.{grown, framed}
@@ -84,7 +84,7 @@ module _ (m m' : List ℕ) (s : Sound m) (f : Frame m m') (same : SameFields m m
     (λ e. let t = lent-child m s d n l e in (same _ _ 6 t (omega arith), same _ _ 7 t (omega arith))),
     (λ e g i. same _ _ g (up m s l e .alive .partition) (omega arith)),
     (λ e. same _ _ 8 p (omega arith)),
-    (λ e. (same _ _ 0 p (omega arith), same _ _ 2 p (omega arith), same _ _ 6 p (omega arith), same _ _ 7 p (omega arith))),
+    later-from m m' d n (λ e g i. same _ _ g p (omega arith)),
   ))
 
   pub fields-stay : Partition m (current m') → ((d : ℕ) → Partition m d → Entries m' d) → Sound m'

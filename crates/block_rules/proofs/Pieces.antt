@@ -15,7 +15,7 @@ use Rattle.block_soundness.proofs.Up.{up}
 use Rattle.block_rules.proofs.Frame.{Frame}
 use Rattle.block_rules.proofs.Chain.{Chain}
 use Rattle.block_rules.proofs.Trail.{Trail}
-use Rattle.block_rules.proofs.Keep.{this-or, Back, pieces-of, block-slot, Same, FirstStays, PriorStays, LaterStays, Was}
+use Rattle.block_rules.proofs.Keep.{this-or, Back, pieces-of, block-slot, Same, FirstStays, PriorStays, LaterStays, later-from, Was}
 use Rattle.block_rules.proofs.Uses.{in-hand}
 use Rattle.block_rules.proofs.Ground.{SourceStays}
 use Rattle.block_rules.proofs.Grown.{KernelStays}
@@ -109,14 +109,9 @@ module _ {m m' : List ℕ} {s : Sound m} {d l h a b : ℕ} (c : Chain m s d l h 
       (omega arith)
 
   later : {t o : ℕ} → Live m t o → ¬ ((t ≡ d) × (o ≡ h)) → ¬ ((t ≡ d) × (o ≡ l)) → LaterStays m m' t o
-  later {t} {o} x ah al z =
+  later {t} {o} x ah al = later-from m m' t o (λ z g (i, j, h).
       let e = block m s x .pieces .more z .back in
-      let k = same (after m s x z) (λ (y, w). al (y, sym e ∙ w)) (λ (y, w). c .is-last o (λ v. al (y, v)) (λ v. ah (y, v)) (sym e ∙ w)) in (
-        k 0 (omega arith),
-        k 2 (omega arith),
-        k 6 (omega arith),
-        k 7 (omega arith),
-      )
+      same (after m s x z) (λ (y, w). al (y, sym e ∙ w)) (λ (y, w). c .is-last o (λ v. al (y, v)) (λ v. ah (y, v)) (sym e ∙ w)) g (omega arith))
 
   -- ---- the slots
 

@@ -21,8 +21,8 @@ use Rattle.block_soundness.proofs.Records.{Record, desc, struct, structure-of}
 use Rattle.block_soundness.proofs.Up.{up}
 use Rattle.block_rules.proofs.SlotWrite.{inStructure}
 use Rattle.block_rules.proofs.Keep.{Same}
-use Rattle.block_rules.proofs.Ground.{root-now, header-on, Words8, descriptor-on, Held, structure-on, root-structure-on, Named, SourceStays, Beside}
-use Rattle.block_rules.proofs.Ground.{slot-on, given-back, free-on}
+use Rattle.block_rules.proofs.Ground.{root-now, header-on, Words8, Words2, descriptor-on, Held, structure-on, root-structure-on, Named, SourceStays, Beside}
+use Rattle.block_rules.proofs.Ground.{beside-on, slot-on, given-back, free-on}
 use Rattle.block_rules.proofs.Framed.{permitted-now}
 use Rattle.block_rules.proofs.Kept.{first-piece, entries-kept}
 use Rattle.block_rules.proofs.Leaving.{backWords, Back, lent, holdsDescriptor, holdsStructure, Leaving, back-some, hand-here, desc-here, kid-back, back?}
@@ -127,11 +127,8 @@ module _ (m m' : List ℕ) (s : Sound m) (Gone : Record → Type 0) (l : Leaving
 
   -- ---- what a block names, its source, and the pieces beside it
 
-  two : (u k i : ℕ) → Partition m u → structure m u k ≢ 0 → ¬ (Gone (struct u k)) → i < 2 → word m' (structure m u k + i) ≡ word m (structure m u k + i)
-  two u k i v z a b = f .inStruct u k i v z a (omega arith) (λ o c x y. absurd (omega arith))
-
-  word0 : (u k : ℕ) → Partition m u → structure m u k ≢ 0 → ¬ (Gone (struct u k)) → word m' (structure m u k) ≡ word m (structure m u k)
-  word0 u k v z a = ap (word m') (sym (add-zero (structure m u k))) ∙ two u k 0 v z a (omega arith) ∙ ap (word m) (add-zero (structure m u k))
+  words2 : (u k : ℕ) → Partition m u → structure m u k ≢ 0 → ¬ (Gone (struct u k)) → Words2 m m' s size (structure m u k)
+  words2 u k v z a i b = f .inStruct u k i v z a (omega arith) (λ o c x y. absurd (omega arith))
 
   names : (u o : ℕ) → Live m u o → Stays u → ¬ (Back m Gone u o) → Named m m' s size u o
   names u o b h a = record {
@@ -148,13 +145,9 @@ module _ (m m' : List ℕ) (s : Sound m) (Gone : Record → Type 0) (l : Leaving
         let c : Stays (place m u o) = λ g. a (holdsDescriptor x g) in
         (to v c, words8 _ v c);
     struct = λ x.
-        let e = block m s b .uses .use4 x .there in
         let (v, z) = structure-of m s u o b x in
-        let c : ¬ (Gone (struct (named m u (child m u o)) (link m u o))) = λ g. a (holdsStructure x g) in (
-          structure-stays _ _ v (λ g. c (l .whole _ _ g)) c,
-          ap (word m') (sym e) ∙ word0 _ _ v z c ∙ ap (word m) e,
-          ap (λ (y : ℕ). word m' (y + 1)) (sym e) ∙ two _ _ 1 v z c (omega arith) ∙ ap (λ (y : ℕ). word m (y + 1)) e,
-        );
+        let c : ¬ (Gone (struct (named m u (child m u o)) (link m u o))) = λ g. a (holdsStructure x g) in
+        (structure-stays _ _ v (λ g. c (l .whole _ _ g)) c, subst (Words2 m m' s size) (block m s b .uses .use4 x .there) (words2 _ _ v z c));
   }
 
   sources : (u o : ℕ) → Live m u o → Stays u → SourceStays m m' s size u o
@@ -163,15 +156,7 @@ module _ (m m' : List ℕ) (s : Sound m) (Gone : Record → Type 0) (l : Leaving
       same-all _ _ g (up m s b r .alive) (parent-stays m Gone s l u v h r) (source-block m Gone s l u v h o b r) (omega arith)
 
   beside : (u o : ℕ) (b : Live m u o) → Stays u → Beside m m' s size b
-  beside u o b h = record {
-    prior = λ z. same _ _ 8 (before m s b z .alive) h (omega arith) (λ (y, w). omega arith);
-    later = λ z. let k = after m s b z in (
-      same _ _ 0 k h (omega arith) (λ (y, w). omega arith),
-      same _ _ 2 k h (omega arith) (λ (y, w). omega arith),
-      same _ _ 6 k h (omega arith) (λ (y, w). omega arith),
-      same _ _ 7 k h (omega arith) (λ (y, w). omega arith),
-    );
-  }
+  beside u o b h = beside-on m m' s size b (λ n g c. same u n g c h)
 
   -- ---- the sentences
 
@@ -198,7 +183,7 @@ module _ (m m' : List ℕ) (s : Sound m) (Gone : Record → Type 0) (l : Leaving
       let held : (e : ℕ) → holder m u (structure m u k) ≡ e → Stays e → Held m m' s size e (word m (structure m u k)) = λ e c y.
       let (b, i) = structure-block m Gone s l u v h k e z g a c in
       (same-all e _ 3 b y i (omega arith), same-all e _ 4 b y i (omega arith), same-all e _ 5 b y i (omega arith)) in
-      structure-on m m' s size u k (structure m u k) o (words8 u v h) (word0 u k v z a) (two u k 1 v z a (omega arith))
+      structure-on m m' s size u k (structure m u k) o (words8 u v h) (words2 u k v z a)
       (λ e. held u (ap (λ (b : Bool). cond b u (parent m u)) (eq-eqb _ _ e)) h)
       (λ e. held (parent m u) (ap (λ (b : Bool). cond b u (parent m u)) (ne-eqb _ _ e)) (parent-stays m Gone s l u v h (λ r. e (o .ofRoot r))))
 
@@ -210,9 +195,7 @@ module _ (m m' : List ℕ) (s : Sound m) (Gone : Record → Type 0) (l : Leaving
       let a = l .empty (root m) 8 b (l .rootStays) in
       let z : structure m (root m) 1 ≢ 0 = λ w. omega (arith, w, x .at) in
       record {
-        ofRoot = λ e. root-structure-on m m' s size (structure-stays (root m) 1 r (l .rootStays) a)
-            (ap (word m') (sym (x .at)) ∙ word0 (root m) 1 r z a ∙ ap (word m) (x .at))
-            (ap (λ (y : ℕ). word m' (y + 1)) (sym (x .at)) ∙ two (root m) 1 1 r z a (omega arith) ∙ ap (λ (y : ℕ). word m (y + 1)) (x .at))
+        ofRoot = λ e. root-structure-on m m' s size (structure-stays (root m) 1 r (l .rootStays) a) (words2 (root m) 1 r z a)
             (alive (root m) 8 b (l .rootStays)) (same (root m) 8 7 b (l .rootStays) (omega arith) (λ (y, w). omega arith) ∙ x .first);
         others = λ k w g.
             let c = structure-here u k v h w in

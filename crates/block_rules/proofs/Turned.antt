@@ -12,7 +12,7 @@ use Rattle.block_memory.specs.Sound.{Sound, Slot, Use}
 use Rattle.block_soundness.proofs.Blocks.{used-as, first-in-root, before, after}
 use Rattle.block_soundness.proofs.Up.{up}
 use Rattle.block_rules.proofs.Keep.{this-or, Same}
-use Rattle.block_rules.proofs.Ground.{SourceStays, Beside, turned, still-on}
+use Rattle.block_rules.proofs.Ground.{SourceStays, Beside, beside-on, turned, still-on}
 use Rattle.block_rules.proofs.Grown.{KernelStays, Grown, words8, names}
 use Rattle.block_rules.proofs.Kept.{first-piece}
 
@@ -43,15 +43,7 @@ module _ (m now : List ℕ) (s : Sound m) (f : Grown m now) (d b : ℕ) (p : Par
   lent u o l e g i = let x = up m s l e in unless-hand _ _ g (x .alive) (omega arith) (λ z. omega (arith, z, x .lent))
 
   beside : (u o : ℕ) (l : Live m u o) → Beside m now s (f .size) l
-  beside u o l = record {
-    prior = λ z. same _ _ 8 (before m s l z .alive) (omega arith) (λ (x, y). omega arith);
-    later = λ z. let k : (g : ℕ) → g < 9 → ¬ ((3 ≤ g) × (g < 6)) → Same m now u _ g = λ g. same _ _ g (after m s l z) in (
-      k 0 (omega arith) (λ (x, y). omega arith),
-      k 2 (omega arith) (λ (x, y). omega arith),
-      k 6 (omega arith) (λ (x, y). omega arith),
-      k 7 (omega arith) (λ (x, y). omega arith),
-    );
-  }
+  beside u o l = beside-on m now s (f .size) l (λ n g. same u n g)
 
   -- ---- the slots
 

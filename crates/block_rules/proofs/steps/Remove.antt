@@ -16,7 +16,7 @@ use Rattle.block_soundness.proofs.Child.{ChildOf, child-of}
 use Rattle.block_rules.specs.Effects.{disable, giveBack, freeSlot, removeFrom}
 use Rattle.block_rules.proofs.Frame.{Placed, Frame}
 use Rattle.block_rules.proofs.Trail.{trail, Wrote, wrote}
-use Rattle.block_rules.proofs.Keep.{this-or, wiped-slot, Same, FirstStays}
+use Rattle.block_rules.proofs.Keep.{this-or, wiped-slot, Same, FirstStays, later-from}
 use Rattle.block_rules.proofs.Ground.{SourceStays, Beside, given-back}
 use Rattle.block_rules.proofs.Grown.{KernelStays, words8}
 use Rattle.block_rules.proofs.Framed.{placed, grown, framed}
@@ -156,15 +156,11 @@ module _ (m : List ℕ) (s : Sound m) (d c b : ℕ) (p : Partition m d) (stands 
     prior = λ z.
         let e = before m s l z .forth in
         let a : ¬ ((u ≡ t) × (previous m u o ≡ n)) = λ (y, w). omega (arith, number-some m s l, e, last-n, ap₂ (λ (i j : ℕ). next m i j) y w) in
-        same _ _ 8 (l .partition) a (omega arith) (λ (y, w). omega arith);
-    later = λ z.
+        same _ _ 8 (l .partition) a (omega arith) (omega arith);
+    later = later-from m now u o (λ z g (i, j, h).
         let e = block m s l .pieces .more z .back in
-        let a : ¬ ((u ≡ t) × (next m u o ≡ n)) = λ (y, w). omega (arith, number-some m s l, e, first-n, ap₂ (λ (i j : ℕ). previous m i j) y w) in (
-          same _ _ 0 (l .partition) a (omega arith) (λ (y, w). omega arith),
-          same _ _ 2 (l .partition) a (omega arith) (λ (y, w). omega arith),
-          same _ _ 6 (l .partition) a (omega arith) (λ (y, w). omega arith),
-          same _ _ 7 (l .partition) a (omega arith) (λ (y, w). omega arith),
-        );
+        let a : ¬ ((u ≡ t) × (next m u o ≡ n)) = λ (y, w). omega (arith, number-some m s l, e, first-n, ap₂ (λ (i j : ℕ). previous m i j) y w) in
+        same _ _ g (l .partition) a (omega arith) h);
   }
 
   -- ---- the slots
