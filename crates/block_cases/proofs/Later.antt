@@ -10,7 +10,7 @@ use Rattle.block_memory.specs.Format.{format}
 use Rattle.block_memory.specs.Sound.{Sound}
 use Rattle.block_soundness.proofs.Ranges.{permitted?}
 use Rattle.block_rules.specs.Row.{first}
-use Rattle.block_rules.specs.Call.{Service, Call, serve}
+use Rattle.block_rules.specs.Call.{Service, serve}
 use Rattle.block_rules.specs.Refusals.{refusalsOf}
 use Rattle.block_rules.specs.Effects.{effectOf, effect}
 use Rattle.block_rules.specs.Calls.{tells, resultOf, result, toldOf, told, answer, after, run, answers, allTold}

@@ -1,7 +1,7 @@
 -- Demand 3, from format and from any sound memory. Assumes nothing.
 use mathlib.Core.Path.{_≡_, sym, ap, ap₂, subst}
 use mathlib.Core.List.{List, [], _∷_}
-use mathlib.Core.Bool.{Bool, true, not}
+use mathlib.Core.Bool.{true, not}
 use Prim.Native.Nat.{ℕ}
 use lib.ListN.{length}
 use Rattle.common.specs.Row.{Answer, ok, reply, pass}

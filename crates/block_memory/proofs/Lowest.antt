@@ -45,11 +45,17 @@ module _ (m : List ℕ) (d : ℕ) where
 
   pub free-structure : freeStructure m d ≢ 0 → (structure m d (freeStructure m d) ≡ 0) × (1 ≤ freeStructure m d) × (freeStructure m d ≤ 16)
   unfolding freeStructure
-  free-structure h = let (a, b) = lowest-some (λ k. eqb (structure m d k) 0) (from 16 1) h in let r = from-in 16 1 _ b in (eqb-true _ _ a, r .0, omega (arith, r .1))
+  free-structure h =
+      let (a, b) = lowest-some (λ k. eqb (structure m d k) 0) (from 16 1) h in
+      let r = from-in 16 1 _ b in
+      (eqb-true _ _ a, r .0, omega (arith, r .1))
 
   pub entry-found : (n : ℕ) → entryOf m d n ≢ 0 → (entry m d (entryOf m d n) ≡ n) × (1 ≤ entryOf m d n) × (entryOf m d n ≤ 8)
   unfolding entryOf
-  entry-found n h = let (a, b) = lowest-some (λ e. eqb (entry m d e) n) (from 8 1) h in let r = from-in 8 1 _ b in (eqb-true _ _ a, r .0, omega (arith, r .1))
+  entry-found n h =
+      let (a, b) = lowest-some (λ e. eqb (entry m d e) n) (from 8 1) h in
+      let r = from-in 8 1 _ b in
+      (eqb-true _ _ a, r .0, omega (arith, r .1))
 
   pub entry-missing : (n e : ℕ) → entryOf m d n ≡ 0 → 1 ≤ e → e ≤ 8 → entry m d e ≢ n
   unfolding entryOf

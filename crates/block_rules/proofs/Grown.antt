@@ -1,15 +1,13 @@
 -- Partitions and structures that were there stay, and so do blocks with use 3 or 4: then descriptors, structures and what blocks name stay too. Assumes
 -- nothing.
-use mathlib.Core.Path.{_≡_, refl, sym, ap, _∙_, subst}
+use mathlib.Core.Path.{_≡_, refl, sym, subst}
 use mathlib.Core.List.{List}
 use mathlib.Core.Logic.{_≢_}
 use Prim.Native.Nat.{ℕ, _+_, _≤_, _<_}
 use native.Mathlib.Omega.{arith}
-use native.Mathlib.Nat.{add-zero}
-use native.Mathlib.Decide.{ℕ-discrete}
 use lib.ListN.{length}
 use Rattle.block_memory.specs.Words.{word}
-use Rattle.block_memory.specs.Partition.{root, Partition, parent, structure, used, child, link, previous, place, named}
+use Rattle.block_memory.specs.Partition.{root, Partition, parent, structure, used, previous, place}
 use Rattle.block_memory.specs.Bytes.{Live}
 use Rattle.block_memory.specs.Sound.{Sound, Descriptor, Structure, RootStructure}
 use Rattle.block_soundness.proofs.Blocks.{block}

@@ -4,7 +4,6 @@ use mathlib.Core.List.{List}
 use mathlib.Core.Logic.{_≢_}
 use Prim.Native.Nat.{ℕ, _<_}
 use native.Mathlib.Omega.{arith}
-use native.Mathlib.Decide.{ℕ-discrete}
 use Rattle.block_memory.specs.Partition.{root, current, Partition, entry, Has, used, child, link, previous, next, place}
 use Rattle.block_memory.specs.Bytes.{Live}
 use Rattle.block_memory.specs.Sound.{Sound, Entries, Slot, Source}
@@ -15,7 +14,7 @@ use Rattle.block_rules.proofs.Frame.{Frame}
 use Rattle.block_rules.proofs.EntryWrite.{SameFields}
 use Rattle.block_rules.proofs.Disabled.{FewerEntries}
 use Rattle.block_rules.proofs.Keep.{Front, Back, Same, FirstStays, PriorStays, LaterStays, later-from, Was}
-use Rattle.block_rules.proofs.Ground.{Words8, Named, SourceStays, source-on, front-on, back-on, slot-behind, slot-on, free-on, still-on}
+use Rattle.block_rules.proofs.Ground.{Words8, Named, SourceStays, source-on, front-on, back-on, slot-behind, still-on}
 use Rattle.block_rules.proofs.Grown.{KernelStays, words8, names}
 use Rattle.block_rules.proofs.Framed.{grown, framed}
 
@@ -37,15 +36,6 @@ module _ (m m' : List ℕ) (s : Sound m) (f : Frame m m') (kernel : KernelStays 
         → (next m d n ≢ 0 → (previous m' d (next m d n) ≡ o) × Same m m' d (next m d n) 0 × Same m m' d (next m d n) 2 × Same m m' d (next m d n) 6)
         → Back m' d o
     back-stays = back-on m m' s (f .size) l (eight l) o sources lent
-
-  pub free-stays : (d n : ℕ) → Partition m d → Has m d n → used m d n ≡ 0 → ((g : ℕ) → g < 9 → Same m m' d n g) → Slot m' d n
-  free-stays = free-on m m' s (f .size)
-
-  -- a block whose own words all stay, and what it names
-  pub slot-stays : {d n : ℕ} → Live m d n → ((g : ℕ) → g < 9 → Same m m' d n g) → FirstStays m m' d n → SourceStays m m' s (f .size) d n
-      → PriorStays m m' d n → LaterStays m m' d n → Slot m' d n
-  slot-stays l same first lent prior later =
-      slot-on m m' s (f .size) l (eight l) same (names-stay l first) lent (record { prior = prior; later = later })
 
   -- a slot whose words all stay
   pub unwritten-stays : (d n : ℕ) → Partition m d → Has m d n → ((g : ℕ) → g < 9 → Same m m' d n g)

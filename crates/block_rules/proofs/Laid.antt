@@ -142,7 +142,7 @@ module _ (m : List ℕ) (s : Sound m) (d b u c l : ℕ) (p : Partition m d) (han
   entries : (v e : ℕ) → Partition m v → entry entered v e ≡ entry w v e
   entries v e h = entry-same w entered v e (λ y z.
       let f : v + 7 + e ≡ v + (7 + e) = omega arith in
-      ap (word entered) f ∙ unless-spare (desc v) h (7 + e) (omega arith) (λ (k, a, g, n). omega arith) ∙ ap (word w) (sym f))
+      ap (word entered) f ∙ unless-spare (desc v) h (7 + e) (omega arith) (omega arith) ∙ ap (word w) (sym f))
 
   grown : Grown m entered
   grown = record {
@@ -153,7 +153,7 @@ module _ (m : List ℕ) (s : Sound m) (d b u c l : ℕ) (p : Partition m d) (han
       listed = low (tableIndex v) (omega (arith, table-has m (q .permits) v h)) (unused .table v h) ∙ h .listed;
     };
     words = λ v i h n.
-        unless-spare (desc v) h i (omega arith) (λ (k, a, e, z). omega arith) ∙ t .trail .frame .descriptor v i h (omega arith) (inl n);
+        unless-spare (desc v) h i (omega arith) (omega arith) ∙ t .trail .frame .descriptor v i h (omega arith) (inl n);
     structures = old-structure;
     two = λ v k i h z n. unless-spare (struct v k) (h, z) i (omega arith) (λ y. y) ∙ t .trail .frame .two v k i h z n;
   }
@@ -172,8 +172,8 @@ module _ (m : List ℕ) (s : Sound m) (d b u c l : ℕ) (p : Partition m d) (han
         ∙ overwrite-at w i₀ ws i h (omega (arith, t .trail .frame .size, in-memory m s d b (length ws) p hand room));
     structures = structures;
     others = others;
-    starts = others d b 0 p has-b (omega arith) (λ (y, z, g, k). omega arith);
-    ends = others d b 1 p has-b (omega arith) (λ (y, z, g, k). omega arith);
+    starts = others d b 0 p has-b (omega arith) (omega arith);
+    ends = others d b 1 p has-b (omega arith) (omega arith);
     changed = λ g i. fields d b (3 + g) p has-b (omega arith) ∙ t .changed g i;
     entries = λ v e h z. let k = entries v e h in k ∙ t .trail .entries v e h (λ y. z (k ∙ y));
     off = λ e z f. let k = entries d e p in t .off e (λ y. z (k ∙ y)) (sym k ∙ f);

@@ -5,7 +5,6 @@ use mathlib.Core.Logic.{_≢_}
 use mathlib.Core.Bool.{Bool, cond}
 use Prim.Native.Nat.{ℕ, _+_, _/_, _≤_, _<_}
 use native.Mathlib.Omega.{arith}
-use native.Mathlib.Nat.{add-zero}
 use native.Mathlib.Decide.{ℕ-discrete}
 use lib.ListN.{length, getD}
 use borrow.Author.Tests.{eq-eqb, ne-eqb}
@@ -15,14 +14,14 @@ use Rattle.block_memory.specs.Bytes.{Live}
 use Rattle.block_memory.specs.Sound.{Sound, Entries, Structure, Structures, Slot}
 use Rattle.block_memory.proofs.Lookups.{structure-same, entry-same, field-at, field-same}
 use Rattle.block_soundness.proofs.Ranges.{Permitted, table-has}
-use Rattle.block_soundness.proofs.Blocks.{used-as, block, field-has, first-in-root, number-some, before, after}
+use Rattle.block_soundness.proofs.Blocks.{used-as, block, field-has, first-in-root, number-some}
 use Rattle.block_soundness.proofs.Levels.{same-word}
 use Rattle.block_soundness.proofs.Records.{Record, desc, struct, structure-of}
 use Rattle.block_soundness.proofs.Up.{up}
 use Rattle.block_rules.proofs.SlotWrite.{inStructure}
 use Rattle.block_rules.proofs.Keep.{Same}
-use Rattle.block_rules.proofs.Ground.{root-now, header-on, Words8, Words2, descriptor-on, Held, structure-on, root-structure-on, Named, SourceStays, Beside}
-use Rattle.block_rules.proofs.Ground.{beside-on, slot-on, given-back, free-on}
+use Rattle.block_rules.proofs.Ground.{root-now, header-on, Words8, Words2, descriptor-on, Held, structure-on, root-structure-on}
+use Rattle.block_rules.proofs.Ground.{Named, SourceStays, Beside, beside-on, slot-on, given-back, free-on}
 use Rattle.block_rules.proofs.Framed.{permitted-now}
 use Rattle.block_rules.proofs.Kept.{first-piece, entries-kept}
 use Rattle.block_rules.proofs.Leaving.{backWords, Back, lent, holdsDescriptor, holdsStructure, Leaving, back-some, hand-here, desc-here, kid-back, back?}
@@ -139,7 +138,7 @@ module _ (m m' : List ℕ) (s : Sound m) (Gone : Record → Type 0) (l : Leaving
     first = λ x.
         let k = first-piece m s u o b x in
         let c : Stays (place m u (child m u o)) = λ g. a (lent x g) in
-        (same _ _ 6 k c (omega arith) (λ (y, z). omega arith), same _ _ 7 k c (omega arith) (λ (y, z). omega arith));
+        (same _ _ 6 k c (omega arith) (omega arith), same _ _ 7 k c (omega arith) (omega arith));
     desc = λ x.
         let v = block m s b .uses .use3 x .listed in
         let c : Stays (place m u o) = λ g. a (holdsDescriptor x g) in
@@ -196,7 +195,7 @@ module _ (m m' : List ℕ) (s : Sound m) (Gone : Record → Type 0) (l : Leaving
       let z : structure m (root m) 1 ≢ 0 = λ w. omega (arith, w, x .at) in
       record {
         ofRoot = λ e. root-structure-on m m' s size (structure-stays (root m) 1 r (l .rootStays) a) (words2 (root m) 1 r z a)
-            (alive (root m) 8 b (l .rootStays)) (same (root m) 8 7 b (l .rootStays) (omega arith) (λ (y, w). omega arith) ∙ x .first);
+            (alive (root m) 8 b (l .rootStays)) (same (root m) 8 7 b (l .rootStays) (omega arith) (omega arith) ∙ x .first);
         others = λ k w g.
             let c = structure-here u k v h w in
             let e = structure-stays u k v h c in

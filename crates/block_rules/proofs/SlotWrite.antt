@@ -62,7 +62,7 @@ module _ (m : List ℕ) (p : Placed m) (d n f : ℕ) (ws : List ℕ) (h : Partit
     header = λ i a b. low-stays i (omega arith);
     table = λ i a b. low-stays i b;
     descriptor = λ t i v a b. stays (desc t) v i a (λ (e, x, y). not-struct e);
-    two = λ t k i v z a. stays (struct t k) (v, z) i (omega arith) (λ (e, x, y). omega arith);
+    two = λ t k i v z a. stays (struct t k) (v, z) i (omega arith) (omega arith);
   }
 
   slot-current : current now ≡ current m

@@ -7,8 +7,8 @@ use lib.ListN.{length, getD}
 use Rattle.block_memory.specs.Partition.{current, Partition, entry, Has, field, putSlot}
 use Rattle.block_rules.specs.Effects.{disable}
 use Rattle.block_rules.proofs.Frame.{Placed, Frame, frame-self, frame-then, structure-stays, placed-kept, to}
-use Rattle.block_rules.proofs.SlotWrite.{Unwritten, Put, slot-put}
-use Rattle.block_rules.proofs.Disabled.{FewerEntries, Disabled, fewer, disabled}
+use Rattle.block_rules.proofs.SlotWrite.{Unwritten, slot-put}
+use Rattle.block_rules.proofs.Disabled.{FewerEntries, fewer, disabled}
 
 pub record Trail (m m' : List ℕ) : Type 0 where
   pub placed : Placed m'

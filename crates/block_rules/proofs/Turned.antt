@@ -9,7 +9,7 @@ use native.Mathlib.Decide.{ℕ-discrete}
 use Rattle.block_memory.specs.Partition.{root, Partition, Has, used, child, link, previous, place}
 use Rattle.block_memory.specs.Bytes.{Live}
 use Rattle.block_memory.specs.Sound.{Sound, Slot, Use}
-use Rattle.block_soundness.proofs.Blocks.{used-as, first-in-root, before, after}
+use Rattle.block_soundness.proofs.Blocks.{used-as, first-in-root}
 use Rattle.block_soundness.proofs.Up.{up}
 use Rattle.block_rules.proofs.Keep.{this-or, Same}
 use Rattle.block_rules.proofs.Ground.{SourceStays, Beside, beside-on, turned, still-on}
@@ -37,7 +37,7 @@ module _ (m now : List ℕ) (s : Sound m) (f : Grown m now) (d b : ℕ) (p : Par
   first : (u o : ℕ) → Live m u o → used m u o ≡ 2 → Same m now (place m u (child m u o)) (link m u o) 6 × Same m now (place m u (child m u o)) (link m u o) 7
   first u o l e =
       let x = first-piece m s u o l e in
-      (same _ _ 6 x (omega arith) (λ (y, z). omega arith), same _ _ 7 x (omega arith) (λ (y, z). omega arith))
+      (same _ _ 6 x (omega arith) (omega arith), same _ _ 7 x (omega arith) (omega arith))
 
   lent : (u o : ℕ) → Live m u o → SourceStays m now s (f .size) u o
   lent u o l e g i = let x = up m s l e in unless-hand _ _ g (x .alive) (omega arith) (λ z. omega (arith, z, x .lent))
@@ -71,4 +71,4 @@ module _ (m now : List ℕ) (s : Sound m) (f : Grown m now) (d b : ℕ) (p : Par
       (λ n z. first-in-root m s .block (sym (t .others (root m) 8 3 (first-in-root m s) (omega arith) (λ (x, y, c, k). n (x, y))) ∙ z))
 
   pub root-first : previous now (root m) 8 ≡ 0
-  root-first = same (root m) 8 7 (first-in-root m s) (omega arith) (λ (x, y). omega arith) ∙ s .structures (root m) (s .table .rootListed) .ofRoot refl .first
+  root-first = same (root m) 8 7 (first-in-root m s) (omega arith) (omega arith) ∙ s .structures (root m) (s .table .rootListed) .ofRoot refl .first

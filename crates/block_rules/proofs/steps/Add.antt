@@ -115,17 +115,17 @@ module _ (m : List ℕ) (s : Sound m) (d c b r : ℕ) (p : Partition m d) (stand
             lent = of-source 3 ∙ taken .changed 0 (omega arith);
             toThis = of-source 4 ∙ taken .changed 1 (omega arith) ∙ sym (number-same m now s frame t (kid .listed) ∙ kid .numberWord);
             noMore =
-                ap₂ (λ (x y : ℕ). bitAnd x y) (is-new 2 (omega arith)) (of-source 2 ∙ b-same 2 (omega arith) (λ (y, w). omega arith))
+                ap₂ (λ (x y : ℕ). bitAnd x y) (is-new 2 (omega arith)) (of-source 2 ∙ b-same 2 (omega arith) (omega arith))
                 ∙ fewer ∙ sym (is-new 2 (omega arith));
           };
         };
         pieces = record {
           first = λ e. (
-            is-new 0 (omega arith) ∙ sym (source-start now t n not-root-now ∙ of-source 0 ∙ b-same 0 (omega arith) (λ (y, w). omega arith)),
+            is-new 0 (omega arith) ∙ sym (source-start now t n not-root-now ∙ of-source 0 ∙ b-same 0 (omega arith) (omega arith)),
             source-link now t n not-root-now ∙ of-source 5 ∙ taken .changed 2 (omega arith),
           );
           later = λ e. absurd (e (is-new 7 (omega arith)));
-          last = λ e. is-new 1 (omega arith) ∙ sym (source-end now t n not-root-now ∙ of-source 1 ∙ b-same 1 (omega arith) (λ (y, w). omega arith));
+          last = λ e. is-new 1 (omega arith) ∙ sym (source-end now t n not-root-now ∙ of-source 1 ∙ b-same 1 (omega arith) (omega arith));
           more = λ e. absurd (e (is-new 8 (omega arith)));
         };
       })

@@ -134,7 +134,7 @@ module _ (m : List ℕ) (s : Sound m) (d c b : ℕ) (p : Partition m d) (stands 
       let x = child-of m s u (child m u o) (l .partition) (h .toChild) in
       let away : ¬ ((place m u (child m u o) ≡ t) × (link m u o ≡ n)) = λ (y, z).
       a (sym (x .parentWord) ∙ ap (parent m) y ∙ kid .parentWord, sym (h .fromThis) ∙ ap₂ (λ (i j : ℕ). source m i j) y z ∙ source-n) in
-      (same _ _ 6 (f .partition) away (omega arith) (λ (y, z). omega arith), same _ _ 7 (f .partition) away (omega arith) (λ (y, z). omega arith))
+      (same _ _ 6 (f .partition) away (omega arith) (omega arith), same _ _ 7 (f .partition) away (omega arith) (omega arith))
 
   -- a block that came from b is n
   from-b : (u o : ℕ) (l : Live m u o) → u ≢ root m → parent m u ≡ d → source m u o ≡ b → (u ≡ t) × (o ≡ n)
@@ -187,7 +187,7 @@ module _ (m : List ℕ) (s : Sound m) (d c b : ℕ) (p : Partition m d) (stands 
       framed m now s frame kernel (subst (Partition m) (sym (given .trail .now)) (s .header .currentWord))
       (this-or (λ u o. used now u o ≢ 0) d b (root m) 8 (λ z. omega (arith, z, is-back 0 (omega arith)))
       (λ ab z. f .block (sym (others (root m) 8 3 x (omega arith) away (λ (y, e, h, k). ab (y, e))) ∙ z)))
-      (same (root m) 8 7 x away (omega arith) (λ (y, z). omega arith) ∙ f .first)
+      (same (root m) 8 7 x away (omega arith) (omega arith) ∙ f .first)
       (entries-off m now s t n live-n (given .trail .entries) not-enabled (λ u o l e a.
       others u o 3 (l .partition) (omega arith) a (λ (y, z, h, k). omega (arith, e, lends, ap₂ (λ (i j : ℕ). used m i j) y z)) ∙ e))
       slots
