@@ -7,8 +7,8 @@ use native.Mathlib.Omega.{arith}
 use lib.ListN.{length-set}
 use lib.Seq.{getD-set-same, getD-set-other}
 use Rattle.block_memory.specs.Words.{word, put}
-use Rattle.block_memory.specs.Partition.{current, structure, slot}
-use Rattle.block_memory.proofs.Lookups.{entry-same, field-same}
+use Rattle.block_memory.specs.Partition.{current, structure}
+use Rattle.block_memory.proofs.Lookups.{inStructure, entry-same, field-same}
 use Rattle.block_soundness.proofs.Records.{desc, struct}
 use Rattle.block_rules.proofs.Frame.{Placed, Frame, structure-stays}
 use Rattle.block_rules.proofs.SlotWrite.{SameEntries}
@@ -34,8 +34,8 @@ module _ (m : List ℕ) (q : Placed m) (x : ℕ) where
   }
 
   pub current-entries : SameEntries m now
-  current-entries d e p = entry-same m now d e (λ a b. other-word (d + 7 + e) (omega (arith, q .lay .low (desc d) p)))
+  current-entries d e p = entry-same m now d e (λ a b. other-word (d + (7 + e)) (omega (arith, q .lay .low (desc d) p)))
 
   pub current-fields : SameFields m now
   current-fields d n g p i = field-same m now d n g (structure-stays m now (q .permits) current-frame d (n / 8) p) (λ z.
-      other-word (slot m d n + g) (omega (arith, q .lay .low (struct d (n / 8)) (p, z))))
+      other-word (structure m d (n / 8) + inStructure n g) (omega (arith, q .lay .low (struct d (n / 8)) (p, z))))

@@ -8,12 +8,11 @@ use lib.ListN.{length, length-set}
 use lib.Seq.{getD-set-same}
 use Rattle.common.proofs.Overwrite.{overwrite-one}
 use Rattle.block_memory.specs.Words.{word, put}
-use Rattle.block_memory.specs.Partition.{root, current, Partition, entry, structure, slot, field}
-use Rattle.block_memory.proofs.Lookups.{entry-same, entry-at, field-same}
+use Rattle.block_memory.specs.Partition.{root, current, Partition, entry, field}
+use Rattle.block_memory.proofs.Lookups.{inStructure, entry-same, entry-at, field-same}
 use Rattle.block_soundness.proofs.Records.{Record, desc, struct, desc-is, not-desc, words, base, Valid}
 use Rattle.block_rules.proofs.Writes as W
 use Rattle.block_rules.proofs.Frame.{Placed, Frame, structure-stays}
-use Rattle.block_rules.proofs.SlotWrite.{inStructure}
 
 abbrev pub SameFields : List ℕ → List ℕ → Type 0
 SameFields m m' = (d n f : ℕ) → Partition m d → f < 9 → field m' d n f ≡ field m d n f
@@ -55,14 +54,10 @@ module _ (m : List ℕ) (p : Placed m) (d e x : ℕ) (h : Partition m d) (a : 1 
   entry-fields : SameFields m now
   entry-fields t o g v i =
       field-same m now t o g (structure-stays m now (p .permits) entry-frame t (o / 8) v) (λ z.
-      let q : slot m t o + g ≡ structure m t (o / 8) + inStructure o g = omega arith in
-      let r : word now (structure m t (o / 8) + inStructure o g) ≡ word m (structure m t (o / 8) + inStructure o g) =
-      entry-stays (struct t (o / 8)) (v, z) (inStructure o g) (omega arith) (λ (u, y). not-desc u) in
-      ap (word now) q ∙ r ∙ ap (word m) (sym q))
+      entry-stays (struct t (o / 8)) (v, z) (inStructure o g) (omega arith) (λ (u, y). not-desc u))
 
   entry-other : (t k : ℕ) → Partition m t → ¬ ((t ≡ d) × (k ≡ e)) → entry now t k ≡ entry m t k
-  entry-other t k v away = entry-same m now t k (λ i j. let q : t + 7 + k ≡ t + (7 + k) = omega arith in
-      ap (word now) q ∙ entry-stays (desc t) v (7 + k) (omega arith) (λ (u, y). away (desc-is u, omega arith)) ∙ ap (word m) (sym q))
+  entry-other t k v away = entry-same m now t k (λ i j. entry-stays (desc t) v (7 + k) (omega arith) (λ (u, y). away (desc-is u, omega arith)))
 
   entry-now : entry now d e ≡ x
   entry-now = entry-at now d e a b ∙ getD-set-same m (d + 7 + e) x 0 (omega (arith, p .lay .inside (desc d) h))

@@ -44,8 +44,7 @@ module _ (m m' : List ℕ) (p : Permitted (length m)) (f : Frame m m') where
       record { some = h .some; inside = i; listed = sym (table-word d i) ∙ h .listed }
 
   pub structure-stays : (d k : ℕ) → Partition m d → structure m' d k ≡ structure m d k
-  structure-stays d k h = structure-same m m' d k (λ a b. let e : d + 15 + k ≡ d + (15 + k) = omega arith in
-      ap (word m') e ∙ f .descriptor d (15 + k) h (omega arith) (inr (omega arith)) ∙ ap (word m) (sym e))
+  structure-stays d k h = structure-same m m' d k (λ a b. f .descriptor d (15 + k) h (omega arith) (inr (omega arith)))
 
   valid-back : (r : Record) → Valid m' r → Valid m r
   valid-back (desc t) v = back v

@@ -11,11 +11,11 @@ use Rattle.walk.specs.Lists.{count, count-nil, count-cons, hit-eq, hit-other}
 use Rattle.common.specs.Words.{overwrite}
 use Rattle.block_memory.specs.Words.{word, over}
 use Rattle.block_memory.specs.Partition.{root, Partition, structure, Has, slot, putSlot}
+use Rattle.block_memory.proofs.Lookups.{inStructure}
 use Rattle.block_soundness.proofs.Records.{Record, desc, struct, struct-is, not-struct, words, base, Valid}
 use Rattle.block_rules.specs.Effects.{giveBack}
 use Rattle.block_rules.proofs.Writes.{Write, write}
 use Rattle.block_rules.proofs.Frame.{Placed}
-use Rattle.block_rules.proofs.SlotWrite.{inStructure}
 use Rattle.block_rules.proofs.Leaving.{backWords}
 use Rattle.block_rules.proofs.Wiped.{AsIn, structure-in}
 

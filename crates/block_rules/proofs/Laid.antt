@@ -12,16 +12,15 @@ use Rattle.common.specs.Words.{overwrite}
 use Rattle.common.proofs.Overwrite.{length-overwrite, overwrite-before, overwrite-after, overwrite-at}
 use Rattle.block_memory.specs.Geometry.{tableIndex}
 use Rattle.block_memory.specs.Words.{word, put}
-use Rattle.block_memory.specs.Partition.{root, Partition, entry, structure, Has, slot, field, end, used, place}
+use Rattle.block_memory.specs.Partition.{root, Partition, entry, structure, Has, field, end, used, place}
 use Rattle.block_memory.specs.Sound.{Sound}
-use Rattle.block_memory.proofs.Lookups.{entry-same, structure-same, field-same}
+use Rattle.block_memory.proofs.Lookups.{inStructure, entry-same, structure-same, field-same}
 use Rattle.block_soundness.proofs.Ranges.{table-has}
 use Rattle.block_soundness.proofs.Blocks.{field-has}
 use Rattle.block_soundness.proofs.Records.{Record, desc, struct, words, base, Valid}
 use Rattle.block_rules.specs.Effects.{takeAs}
 use Rattle.block_rules.proofs.Frame.{Placed, structure-stays}
 use Rattle.block_rules.proofs.Disabled.{FewerEntries}
-use Rattle.block_rules.proofs.SlotWrite.{inStructure}
 use Rattle.block_rules.proofs.Trail.{Trail, trail}
 use Rattle.block_rules.proofs.Keep.{Same}
 use Rattle.block_rules.proofs.Grown.{Grown}
@@ -120,9 +119,7 @@ module _ (m : List ℕ) (s : Sound m) (d b u c l : ℕ) (p : Partition m d) (han
 
   structures : (v k : ℕ) → Partition m v → (1 ≤ k → k ≤ 16 → v + (15 + k) ≢ j) → structure entered v k ≡ structure m v k
   structures v k h n = structure-same m entered v k (λ y z.
-      let e : v + 15 + k ≡ v + (15 + k) = omega arith in
-      ap (word entered) e ∙ at (desc v) h (15 + k) (omega arith) (n y z)
-      ∙ t .trail .frame .descriptor v (15 + k) h (omega arith) (inr (omega arith)) ∙ ap (word m) (sym e))
+      at (desc v) h (15 + k) (omega arith) (n y z) ∙ t .trail .frame .descriptor v (15 + k) h (omega arith) (inr (omega arith)))
 
   old-structure : (v k : ℕ) → Partition m v → structure m v k ≢ 0 → structure entered v k ≡ structure m v k
   old-structure v k h z = structures v k h (λ y y' e.
@@ -132,17 +129,15 @@ module _ (m : List ℕ) (s : Sound m) (d b u c l : ℕ) (p : Partition m d) (han
   fields : (v o g : ℕ) → Partition m v → Has m v o → g < 9 → Same w entered v o g
   fields v o g h z i =
       let f = structure-stays m w (q .permits) (t .trail .frame) v (o / 8) h in
+      let e = ap (λ (x : ℕ). x + inStructure o g) f in
       field-same w entered v o g (old-structure v (o / 8) h z ∙ sym f) (λ n.
-      let e : slot w v o + g ≡ structure m v (o / 8) + inStructure o g = omega (arith, f) in
       ap (word entered) e ∙ unless-spare (struct v (o / 8)) (h, z) (inStructure o g) (omega arith) (λ y. y) ∙ ap (word w) (sym e))
 
   others : (v o g : ℕ) → Partition m v → Has m v o → g < 9 → ¬ ((v ≡ d) × (o ≡ b) × (3 ≤ g) × (g < 6)) → Same m entered v o g
   others v o g h z i away = fields v o g h z i ∙ t .others v o g h i away
 
   entries : (v e : ℕ) → Partition m v → entry entered v e ≡ entry w v e
-  entries v e h = entry-same w entered v e (λ y z.
-      let f : v + 7 + e ≡ v + (7 + e) = omega arith in
-      ap (word entered) f ∙ unless-spare (desc v) h (7 + e) (omega arith) (omega arith) ∙ ap (word w) (sym f))
+  entries v e h = entry-same w entered v e (λ y z. unless-spare (desc v) h (7 + e) (omega arith) (omega arith))
 
   grown : Grown m entered
   grown = record {

@@ -9,16 +9,15 @@ use native.Mathlib.Decide.{ℕ-discrete}
 use lib.ListN.{length, getD}
 use borrow.Author.Tests.{eq-eqb, ne-eqb}
 use Rattle.block_memory.specs.Words.{word}
-use Rattle.block_memory.specs.Partition.{root, Partition, parent, structure, Has, slot, field, used, child, link, place, named, holder}
+use Rattle.block_memory.specs.Partition.{root, Partition, parent, structure, Has, field, used, child, link, place, named, holder}
 use Rattle.block_memory.specs.Bytes.{Live}
 use Rattle.block_memory.specs.Sound.{Sound, Entries, Structure, Structures, Slot}
-use Rattle.block_memory.proofs.Lookups.{structure-same, entry-same, field-at, field-same}
+use Rattle.block_memory.proofs.Lookups.{inStructure, structure-same, entry-same, field-at, field-same}
 use Rattle.block_soundness.proofs.Ranges.{Permitted, table-has}
 use Rattle.block_soundness.proofs.Blocks.{used-as, block, field-has, first-in-root, number-some}
 use Rattle.block_soundness.proofs.Levels.{same-word}
 use Rattle.block_soundness.proofs.Records.{Record, desc, struct, structure-of}
 use Rattle.block_soundness.proofs.Up.{up}
-use Rattle.block_rules.proofs.SlotWrite.{inStructure}
 use Rattle.block_rules.proofs.Keep.{Same}
 use Rattle.block_rules.proofs.Ground.{root-now, header-on, Words8, Words2, descriptor-on, Held, structure-on, root-structure-on}
 use Rattle.block_rules.proofs.Ground.{Named, SourceStays, Beside, beside-on, slot-on, given-back, free-on}
@@ -61,10 +60,7 @@ module _ (m m' : List ℕ) (s : Sound m) (Gone : Record → Type 0) (l : Leaving
 
   structure-stays : (u k : ℕ) → Partition m u → Stays u → ¬ (Gone (struct u k)) → structure m' u k ≡ structure m u k
   structure-stays u k v h a = structure-same m m' u k (λ x y.
-      let e : u + 15 + k ≡ u + (15 + k) = omega arith in
-      ap (word m') e
-      ∙ f .inDescriptor u (15 + k) v h (omega arith) (λ j b c g. a (subst (λ (i : ℕ). Gone (struct u i)) (omega arith) g))
-      ∙ ap (word m) (sym e))
+      f .inDescriptor u (15 + k) v h (omega arith) (λ j b c g. a (subst (λ (i : ℕ). Gone (struct u i)) (omega arith) g)))
 
   structure-here : (u k : ℕ) → Partition m u → Stays u → structure m' u k ≢ 0 → ¬ (Gone (struct u k))
   structure-here u k v h z g = z (f .unnamed u k v h g)
@@ -72,10 +68,7 @@ module _ (m m' : List ℕ) (s : Sound m) (Gone : Record → Type 0) (l : Leaving
   -- a slot's words; those of a block, but use, child and link; those of a block that isn't given back; those three of one that is
   pub fields : (u o g : ℕ) → Partition m u → Stays u → ¬ (Gone (struct u (o / 8))) → g < 9 → ¬ (Back m Gone u o × (3 ≤ g) × (g < 6)) → Same m m' u o g
   fields u o g v h a i c = field-same m m' u o g (structure-stays u (o / 8) v h a) (λ z.
-      let e : slot m u o + g ≡ structure m u (o / 8) + inStructure o g = omega arith in
-      ap (word m') e
-      ∙ f .inStruct u (o / 8) (inStructure o g) v z a (omega arith) (λ n j x y b. c (subst (Back m Gone u) (omega arith) b, omega arith, omega arith))
-      ∙ ap (word m) (sym e))
+      f .inStruct u (o / 8) (inStructure o g) v z a (omega arith) (λ n j x y b. c (subst (Back m Gone u) (omega arith) b, omega arith, omega arith)))
 
   pub same : (u o g : ℕ) → Live m u o → Stays u → g < 9 → ¬ ((3 ≤ g) × (g < 6)) → Same m m' u o g
   same u o g b h i a = fields u o g (b .partition) h (l .empty u o b h) i (λ (x, y, z). a (y, z))
@@ -204,9 +197,7 @@ module _ (m m' : List ℕ) (s : Sound m) (Gone : Record → Type 0) (l : Leaving
 
   entries : (u : ℕ) → Partition m u → Stays u → Entries m' u
   entries u v h = entries-kept m m' s u v
-      (λ e z. entry-same m m' u e (λ x y.
-      let c : u + 7 + e ≡ u + (7 + e) = omega arith in
-      ap (word m') c ∙ f .inDescriptor u (7 + e) v h (omega arith) (λ k a i. absurd (omega arith)) ∙ ap (word m) (sym c)))
+      (λ e z. entry-same m m' u e (λ x y. f .inDescriptor u (7 + e) v h (omega arith) (λ k a i. absurd (omega arith))))
       (λ o x e y. same-all u o 3 (used-as v x) h (hand-here m Gone u o x) (omega arith) ∙ x)
 
   low-word : (j : ℕ) → j < 8 → word m' j ≡ word m j

@@ -2,7 +2,7 @@
 use mathlib.Core.Path.{_≡_, refl, sym, ap, _∙_, subst}
 use mathlib.Core.List.{List}
 use mathlib.Core.Bool.{Bool, cond}
-use Prim.Native.Nat.{ℕ, _+_, _*_, _/_, _%_, _≤_, _<_}
+use Prim.Native.Nat.{ℕ, _+_, _/_, _≤_, _<_}
 use native.Mathlib.Omega.{arith}
 use native.Mathlib.Decide.{ℕ-discrete}
 use lib.ListN.{length, getD}
@@ -11,17 +11,13 @@ use Rattle.common.specs.Words.{overwrite}
 use Rattle.common.proofs.Overwrite.{length-overwrite}
 use Rattle.block_memory.specs.Words.{word}
 use Rattle.block_memory.specs.Partition.{root, current, Partition, entry, structure, Has, slot, field, putSlot}
-use Rattle.block_memory.proofs.Lookups.{entry-same, field-at, field-same}
+use Rattle.block_memory.proofs.Lookups.{inStructure, entry-same, field-at, field-same}
 use Rattle.block_soundness.proofs.Records.{Record, desc, struct, struct-is, not-struct, words, base, Valid}
 use Rattle.block_rules.proofs.Writes as W
 use Rattle.block_rules.proofs.Frame.{Placed, Frame, frame-self, structure-stays}
 
 abbrev pub SameEntries : List ℕ → List ℕ → Type 0
 SameEntries m m' = (d e : ℕ) → Partition m d → entry m' d e ≡ entry m d e
-
--- where word f of slot n stands in its structure
-abbrev pub inStructure : ℕ → ℕ → ℕ
-inStructure n f = 2 + 9 * (n % 8) + f
 
 -- word g of slot o of t isn't among the words ws, written to slot n of d from its word f on
 abbrev pub Unwritten : ℕ → ℕ → ℕ → List ℕ → ℕ → ℕ → ℕ → Type 0
@@ -69,14 +65,12 @@ module _ (m : List ℕ) (p : Placed m) (d n f : ℕ) (ws : List ℕ) (h : Partit
   slot-current = low-stays 3 (omega arith)
 
   slot-entries : SameEntries m now
-  slot-entries t e v = entry-same m now t e (λ a b. let q : t + 7 + e ≡ t + (7 + e) = omega arith in
-      ap (word now) q ∙ stays (desc t) v (7 + e) (omega arith) (λ (x, y, z). not-struct x) ∙ ap (word m) (sym q))
+  slot-entries t e v = entry-same m now t e (λ a b. stays (desc t) v (7 + e) (omega arith) (λ (x, y, z). not-struct x))
 
   slot-other : (t o g : ℕ) → Partition m t → g < 9 → Unwritten d n f ws t o g → field now t o g ≡ field m t o g
   slot-other t o g v i away =
       field-same m now t o g (structure-stays m now (p .permits) slot-frame t (o / 8) v) (λ z.
-      let q : slot m t o + g ≡ structure m t (o / 8) + inStructure o g = omega arith in
-      ap (word now) q ∙ stays (struct t (o / 8)) (v, z) (inStructure o g) (omega arith) same ∙ ap (word m) (sym q))
+      stays (struct t (o / 8)) (v, z) (inStructure o g) (omega arith) same)
     where
       same : (struct t (o / 8) ≡ record-of) × (inStructure n f ≤ inStructure o g) × (inStructure o g < inStructure n f + length ws) → ⊥
       same (e, x, y) =

@@ -25,8 +25,7 @@ module _ (m : List ℕ) (q : Placed m) where
   AsIn x u = (i : ℕ) → i < 32 → word x (u + i) ≡ word m (u + i)
 
   pub structure-in : (x : List ℕ) (u k : ℕ) → AsIn x u → structure x u k ≡ structure m u k
-  structure-in x u k h = structure-same m x u k (λ a b.
-      let e : u + 15 + k ≡ u + (15 + k) = omega arith in ap (word x) e ∙ h (15 + k) (omega arith) ∙ ap (word m) (sym e))
+  structure-in x u k h = structure-same m x u k (λ a b. h (15 + k) (omega arith))
 
   -- ---- which words are wiped with g
 

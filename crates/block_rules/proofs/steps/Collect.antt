@@ -11,7 +11,7 @@ use Rattle.block_memory.specs.Words.{word, put, wipe}
 use Rattle.block_memory.specs.Partition.{root, Partition, structure, Has, used, holder, emptyStructure}
 use Rattle.block_memory.specs.Bytes.{Live}
 use Rattle.block_memory.specs.Sound.{Sound}
-use Rattle.block_memory.proofs.Lookups.{structure-at, structure-same}
+use Rattle.block_memory.proofs.Lookups.{inStructure, structure-at, structure-same}
 use Rattle.block_memory.proofs.Lowest.{empty-structure}
 use Rattle.block_soundness.proofs.Ranges.{structure-range}
 use Rattle.block_soundness.proofs.Blocks.{used-as, field-has, first-in-root}
@@ -21,7 +21,6 @@ use Rattle.block_soundness.proofs.Records.{standing-struct, in-bytes, struct-in
 use Rattle.block_rules.specs.Effects.{giveBack, collectFrom}
 use Rattle.block_rules.proofs.Writes.{Write, write, write-one}
 use Rattle.block_rules.proofs.Frame.{Placed}
-use Rattle.block_rules.proofs.SlotWrite.{inStructure}
 use Rattle.block_rules.proofs.Framed.{placed}
 use Rattle.block_rules.proofs.Leaving.{backWords, Back, lent, holdsDescriptor, holdsStructure, Leaving}
 use Rattle.block_rules.proofs.Shrunk.{Shrunk, shrunk-sound}
@@ -89,8 +88,7 @@ module _ (m : List ℕ) (s : Sound m) (t : ℕ) (pt : Partition m t) (some : emp
   -- the block's own structure is another one
   own₂ : structure m₂ h (n / 8) ≡ structure m h (n / 8)
   own₂ = structure-same m m₂ h (n / 8) (λ x y.
-      let e : h + 15 + n / 8 ≡ h + (15 + n / 8) = omega arith in
-      ap (word m₂) e ∙ stay₂ (desc h) ph (15 + n / 8) (omega arith) not-struct (λ (a, b). not-in (in-h .alive) (desc-is a, omega arith)) ∙ ap (word m) (sym e))
+      stay₂ (desc h) ph (15 + n / 8) (omega arith) not-struct (λ (a, b). not-in (in-h .alive) (desc-is a, omega arith)))
 
   abbrev m₃ : List ℕ
   m₃ = giveBack m₂ h n

@@ -15,6 +15,7 @@ use Rattle.block_memory.specs.Partition.{numbers, root, current, Partition, par
 use Rattle.block_memory.specs.Tree.{Below, self, under}
 use Rattle.block_memory.specs.Bytes.{Live, HasByte}
 use Rattle.block_memory.specs.Sound.{Sound}
+use Rattle.block_memory.proofs.Lookups.{inStructure}
 use Rattle.block_soundness.proofs.Ranges.{table-has, has-range}
 use Rattle.block_soundness.proofs.Blocks.{used-as, block, field-has, number-some}
 use Rattle.block_soundness.proofs.Records.{Record, desc, struct, struct-is, not-struct, owner}
@@ -25,7 +26,6 @@ use Rattle.block_rules.specs.Effects.{ofChild, goesWith, wipePartition, 
 use Rattle.block_rules.specs.Deleted as Specs
 use Rattle.block_rules.specs.Deleted.{OfChild, Deleted}
 use Rattle.block_rules.proofs.Frame.{Placed}
-use Rattle.block_rules.proofs.SlotWrite.{inStructure}
 use Rattle.block_rules.proofs.Framed.{placed}
 use Rattle.block_rules.proofs.Leaving.{backWords, Back, lent, holdsDescriptor, holdsStructure, Leaving, back-some, kid-back}
 use Rattle.block_rules.proofs.Shrunk.{Shrunk, fields, same, given, to, back, shrunk-sound}

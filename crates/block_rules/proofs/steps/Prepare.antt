@@ -15,14 +15,13 @@ use Rattle.block_memory.specs.Words.{word}
 use Rattle.block_memory.specs.Partition.{root, Partition, parent, number, structure, Has, field, end, used, child, place, named, freeStructure}
 use Rattle.block_memory.specs.Sound.{Sound, StandsIn, Structure, Slot, Use}
 use Rattle.block_memory.proofs.Lists.{after-two}
-use Rattle.block_memory.proofs.Lookups.{structure-at, field-at}
+use Rattle.block_memory.proofs.Lookups.{inStructure, structure-at, field-at}
 use Rattle.block_memory.proofs.Lowest.{free-structure}
 use Rattle.block_soundness.proofs.Ranges.{table-has}
 use Rattle.block_soundness.proofs.Blocks.{used-as}
 use Rattle.block_soundness.proofs.Records.{Record, desc, desc-is, words, base, Valid, low, layout}
 use Rattle.block_soundness.proofs.Child.{named-own, named-child, named-partition, ChildOf, child-of}
 use Rattle.block_rules.specs.Effects.{prepareFor}
-use Rattle.block_rules.proofs.SlotWrite.{inStructure}
 use Rattle.block_rules.proofs.Keep.{this-or, wiped-slot, Same, named-same}
 use Rattle.block_rules.proofs.Ground.{root-now, parent-on, number-on}
 use Rattle.block_rules.proofs.Grown.{words8}
