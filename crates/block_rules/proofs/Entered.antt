@@ -1,4 +1,4 @@
--- A record is entered into a block that is taken: what was there keeps its sentences. Assumes nothing.
+-- A record is laid into a block that is taken (Laid): what was there keeps its sentences. Assumes nothing.
 use mathlib.Core.Path.{_≡_, sym, ap, ap₂, _∙_, subst}
 use mathlib.Core.List.{List, [], _∷_}
 use mathlib.Core.Logic.{_≢_}

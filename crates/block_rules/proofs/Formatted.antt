@@ -1,4 +1,4 @@
--- Format leaves sound memory. Assumes a permitted length.
+-- Format leaves sound memory: word by word, then sentence by sentence. Assumes a permitted length.
 use mathlib.Core.Path.{_≡_, refl, sym, ap, _∙_, subst}
 use mathlib.Core.List.{List}
 use mathlib.Core.Logic.{_≢_, _⊎_, inl, inr}

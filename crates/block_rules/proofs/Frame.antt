@@ -54,7 +54,7 @@ module _ (m m' : List ℕ) (p : Permitted (length m)) (f : Frame m m') where
   base-same (desc t) v = refl
   base-same (struct t k) v = structure-stays t k (back (v .0))
 
-  pub layout-kept : Layout m → Layout m'
+  layout-kept : Layout m → Layout m'
   layout-kept l = record {
     inside = λ r v. omega (arith, l .inside r (valid-back r v), base-same r v, f .size);
     low = λ r v. omega (arith, l .low r (valid-back r v), base-same r v, root-same);

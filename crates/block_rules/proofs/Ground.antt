@@ -1,4 +1,5 @@
--- A descriptor, a structure and a block each keep their sentences where the words that these look at stay. Assumes nothing.
+-- Sound memory and another of its length: header, descriptors, structures and slots keep their sentences where the words that these look at stay. Assumes
+-- nothing.
 use mathlib.Core.Path.{_≡_, refl, sym, ap, ap₂, _∙_, subst}
 use mathlib.Core.List.{List}
 use mathlib.Core.Logic.{_≢_}
@@ -22,7 +23,7 @@ module _ (m m' : List ℕ) (s : Sound m) (size : length m' ≡ length m) where
   pub root-now : root m' ≡ root m
   root-now = ap (λ (w : ℕ). 8 + w / 32) size
 
-  -- ---- 1
+  -- ---- sentence 1
 
   pub header-on : ((i : ℕ) → i < 8 → i ≢ 3 → word m' i ≡ word m i) → Partition m' (current m') → Header m'
   header-on h c = record {
@@ -34,7 +35,7 @@ module _ (m m' : List ℕ) (s : Sound m) (size : length m' ≡ length m) where
     rest = λ i a b. h i b (omega arith) ∙ s .header .rest i a b;
   }
 
-  -- ---- 3
+  -- ---- sentence 3
 
   zero-on : (i : ℕ) → word m' (i + 0) ≡ word m (i + 0) → word m' i ≡ word m i
   zero-on i e = ap (word m') (sym (add-zero i)) ∙ e ∙ ap (word m) (add-zero i)
@@ -49,7 +50,7 @@ module _ (m m' : List ℕ) (s : Sound m) (size : length m' ≡ length m) where
   pub number-on : (d : ℕ) → Words8 d → number m' d ≡ number m d
   number-on d w = w 1 (omega arith)
 
-  pub level-on : (d : ℕ) → Words8 d → level m' d ≡ level m d
+  level-on : (d : ℕ) → Words8 d → level m' d ≡ level m d
   level-on d w = w 2 (omega arith)
 
   pub record Above (d : ℕ) : Type 0 where
@@ -84,7 +85,7 @@ module _ (m m' : List ℕ) (s : Sound m) (size : length m' ≡ length m) where
         };
   }
 
-  -- ---- 5
+  -- ---- sentence 5
 
   -- the first two words of the structure at index i
   abbrev pub Words2 : ℕ → Type 0
@@ -125,7 +126,7 @@ module _ (m m' : List ℕ) (s : Sound m) (size : length m' ≡ length m) where
         first = ap (λ (x : ℕ). previous m' x 8) root-now ∙ p8;
       }
 
-  -- ---- 6 to 9
+  -- ---- sentences 6 to 9
 
   -- what a block of use 2, 3 or 4 names
   pub record Named (d n : ℕ) : Type 0 where
@@ -140,7 +141,7 @@ module _ (m m' : List ℕ) (s : Sound m) (size : length m' ≡ length m) where
   SourceStays d n = d ≢ root m → (g : ℕ) → g < 6 → Same m m' (parent m d) (source m d n) g
 
   module _ {d n : ℕ} (l : Live m d n) where
-    pub use-on : Same m m' d n 0 → (used m d n ≢ 1 → Same m m' d n 1) → Same m m' d n 3 → Same m m' d n 4 → Same m m' d n 5 → Named d n → Use m' d n
+    use-on : Same m m' d n 0 → (used m d n ≢ 1 → Same m m' d n 1) → Same m m' d n 3 → Same m m' d n 4 → Same m m' d n 5 → Named d n → Use m' d n
     use-on a b c e g k = use-kept m m' (record {
       starts = a;
       ends = b;
@@ -193,7 +194,7 @@ module _ (m m' : List ℕ) (s : Sound m) (size : length m' ≡ length m) where
           (λ z. let (a, b, c, e) = later z in (e ∙ block m s l .pieces .more z .back, a, b, c))
 
     -- sentences 8 and 9 of a block whose words 0, 1, 2, 6, 7 and 8 stay
-    pub pieces-on : Words8 d → ((g : ℕ) → g < 9 → ¬ ((3 ≤ g) × (g < 6)) → Same m m' d n g) → SourceStays d n → Beside → Source m' d n × Pieces m' d n
+    pieces-on : Words8 d → ((g : ℕ) → g < 9 → ¬ ((3 ≤ g) × (g < 6)) → Same m m' d n g) → SourceStays d n → Beside → Source m' d n × Pieces m' d n
     pieces-on w same lent by =
         let k : (g : ℕ) → (g < 9) × ¬ ((3 ≤ g) × (g < 6)) × (g ≢ 7) → Same m m' d n g = λ g (i, a, b). same g i a in
         (source-of w k lent, pieces-of (front-of w k lent (same 7 (omega arith) (omega arith)) (by .prior)) (back-of w k lent (by .later)))

@@ -3,14 +3,14 @@
 use mathlib.Core.Path.{_≡_, refl, sym, subst}
 use mathlib.Core.List.{List}
 use mathlib.Core.Logic.{_≢_}
-use Prim.Native.Nat.{ℕ, _+_, _≤_, _<_}
+use Prim.Native.Nat.{ℕ, suc, _+_, _≤_, _<_}
 use native.Mathlib.Omega.{arith}
 use lib.ListN.{length}
 use Rattle.block_memory.specs.Words.{word}
 use Rattle.block_memory.specs.Partition.{root, Partition, parent, structure, used, previous, place}
 use Rattle.block_memory.specs.Bytes.{Live}
 use Rattle.block_memory.specs.Sound.{Sound, Descriptor, Structure, RootStructure}
-use Rattle.block_soundness.proofs.Blocks.{block}
+use Rattle.block_soundness.proofs.Blocks.{used-as, block}
 use Rattle.block_soundness.proofs.Records.{structure-of}
 use Rattle.block_rules.proofs.Keep.{Same, FirstStays}
 use Rattle.block_rules.proofs.Ground.{Words8, Words2, descriptor-on, Held, structure-on, root-structure-on, Named}
@@ -34,21 +34,19 @@ module _ (m m' : List ℕ) (s : Sound m) (f : Grown m m') where
   words2 d k p z i h = f .two d k i p z h
 
   module _ (kernel : KernelStays m m') where
-    kernel-use : (d n g u : ℕ) → Partition m d → used m d n ≡ u → 3 ≤ u → g < 7 → Same m m' d n g
-    kernel-use d n g u p e a b = kernel d n g (record { partition = p; block = λ z. omega (arith, z, e) }) (omega (arith, e)) b
+    kernel-use : (d n g : ℕ) {k : ℕ} → Partition m d → used m d n ≡ suc (suc (suc k)) → g < 7 → Same m m' d n g
+    kernel-use d n g p e i = kernel d n g (used-as p e) (omega (arith, e)) i
 
     pub descriptor : (d : ℕ) → Partition m d → Descriptor m' d
     descriptor d p = descriptor-on m m' s (f .size) d p (words8 d p) (λ e. let h = s .descriptors d p .ofOther e in record {
       listed = f .to (h .parentListed);
       words = words8 (parent m d) (h .parentListed);
-      starts = kernel-use _ _ 0 3 (h .parentListed) (h .stands) (omega arith) (omega arith);
-      uses = kernel-use _ _ 3 3 (h .parentListed) (h .stands) (omega arith) (omega arith);
+      starts = kernel-use _ _ 0 (h .parentListed) (h .stands) (omega arith);
+      uses = kernel-use _ _ 3 (h .parentListed) (h .stands) (omega arith);
     })
 
     held : (h n : ℕ) → Partition m h → used m h n ≡ 4 → Held m m' s (f .size) h n
-    held h n p e =
-        let k : (g : ℕ) → g < 7 → Same m m' h n g = λ g i. kernel-use h n g 4 p e (omega arith) i in
-        (k 3 (omega arith), k 4 (omega arith), k 5 (omega arith))
+    held h n p e = (kernel-use h n 3 p e (omega arith), kernel-use h n 4 p e (omega arith), kernel-use h n 5 p e (omega arith))
 
     pub structure-kept : (d k : ℕ) → Partition m d → structure m d k ≢ 0 → ¬ ((d ≡ root m) × (k ≡ 1)) → Structure m' d k (structure m' d k)
     structure-kept d k p z g =
@@ -68,7 +66,7 @@ module _ (m m' : List ℕ) (s : Sound m) (f : Grown m m') where
     -- what a block of use 2, 3 or 4 names, but for the first piece
     pub names : (d n : ℕ) → Live m d n → FirstStays m m' d n → Named m m' s (f .size) d n
     names d n l first = record {
-      kid = λ u. (kernel-use d _ 0 3 (l .partition) u (omega arith) (omega arith), kernel-use d _ 3 3 (l .partition) u (omega arith) (omega arith));
+      kid = λ u. (kernel-use d _ 0 (l .partition) u (omega arith), kernel-use d _ 3 (l .partition) u (omega arith));
       first = first;
       desc = λ u. let h = block m s l .uses .use3 u .listed in (f .to h, words8 (place m d n) h);
       struct = λ u.

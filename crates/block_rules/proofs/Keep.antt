@@ -1,4 +1,4 @@
--- A block keeps its sentences 6 to 9 where the words that they look at stay. Assumes nothing.
+-- A block keeps its sentences 6 to 9 where the words that they look at stay: for any two memories, sound or not. Assumes nothing.
 use mathlib.Core.Path.{_≡_, refl, sym, ap, ap₂, _∙_, subst}
 use mathlib.Core.List.{List}
 use mathlib.Core.Bool.{cond}
@@ -60,7 +60,7 @@ module _ (m m' : List ℕ) where
   pub later-from : (d n : ℕ) → (next m d n ≢ 0 → (g : ℕ) → (g < 8) × (g ≢ 1) × ¬ ((3 ≤ g) × (g < 6)) → Same d (next m d n) g) → LaterStays d n
   later-from d n same z = (same z 0 (omega arith), same z 2 (omega arith), same z 6 (omega arith), same z 7 (omega arith))
 
-  -- ---- 6
+  -- ---- sentence 6
 
   pub form-kept : {d n : ℕ} → length m' ≡ length m → Same d n 0 → Same d n 1 → Same d n 2 → Same d n 3 → Form m d n → Form m' d n
   form-kept z a b c e f = record {
@@ -70,7 +70,7 @@ module _ (m m' : List ℕ) where
     known = omega (arith, f .known);
   }
 
-  -- ---- 7
+  -- ---- sentence 7
 
   pub record UseKept (d n : ℕ) : Type 0 where
     pub starts : Same d n 0
@@ -141,7 +141,7 @@ module _ (m m' : List ℕ) where
             };
       }
 
-  -- ---- 8 and 9, for block o in place of block n
+  -- ---- sentences 8 and 9, for block o in place of block n
 
   -- word g of block o is what word g of block n was
   abbrev pub Was : ℕ → ℕ → ℕ → ℕ → Type 0

@@ -1,4 +1,4 @@
--- Slots that stay, in a frame. Assumes nothing.
+-- Slots and entries keep their sentences where slots, entries and the current partition alone change, and their own words stay. Assumes nothing.
 use mathlib.Core.Path.{_≡_, refl, sym, ap, _∙_}
 use mathlib.Core.List.{List}
 use mathlib.Core.Logic.{_≢_}

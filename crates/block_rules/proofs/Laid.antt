@@ -1,5 +1,5 @@
--- A record is laid into a block that is taken, from its first whole word on, and the index of that word is entered where nothing was: what this leaves of
--- the words that were there. Assumes nothing.
+-- A record is laid into a block that is taken, from its first whole word on, and the index of that word is entered where nothing was: what the words are
+-- then. Assumes nothing.
 use mathlib.Core.Path.{_≡_, sym, ap, _∙_}
 use mathlib.Core.List.{List, [], _∷_}
 use mathlib.Core.Logic.{_≢_, inl, inr}

@@ -1,4 +1,4 @@
--- Records go, Gone says which, and blocks are given back with them: which blocks, and what a block that isn't given back names. Assumes nothing.
+-- Records go, and blocks are given back with them: which may go, which blocks these are, and what a block that isn't given back names. Assumes nothing.
 use mathlib.Core.Path.{_≡_, sym, ap, _∙_, subst}
 use mathlib.Core.List.{List, [], _∷_}
 use mathlib.Core.Logic.{_≢_}

@@ -1,5 +1,4 @@
--- Cut and merge are mirror images: a chain of pieces gets one more, or one fewer. What both calls leave of all slots but that of the higher block is said here
--- once. Assumes nothing.
+-- Cut and merge are mirror images: a chain of pieces gets one more, or one fewer. What both leave of all slots but that of the higher block. Assumes nothing.
 use mathlib.Core.Path.{_≡_, refl, sym, ap, ap₂, _∙_, subst}
 use mathlib.Core.List.{List}
 use mathlib.Core.Logic.{_≢_}

@@ -1,4 +1,4 @@
--- Several writes to slots, one after another, and a block disabled in between. Assumes nothing.
+-- Several writes to slots, one after another, and blocks disabled in between: what changes in sum. Assumes nothing.
 use mathlib.Core.Path.{_≡_, refl, sym, _∙_}
 use mathlib.Core.List.{List}
 use mathlib.Core.Logic.{_≢_}

@@ -23,7 +23,7 @@ module _ (m : List ℕ) (lay : Layout m) (r : Record) (v : Valid m r) (x : List 
   abbrev pub written : List ℕ
   written = overwrite x (base m r + i) ws
 
-  pub written-size : length written ≡ length m
+  written-size : length written ≡ length m
   written-size = length-overwrite x (base m r + i) ws ∙ size
 
   pub below-stays : (j : ℕ) → j < root m → word written j ≡ word x j

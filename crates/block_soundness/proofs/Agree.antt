@@ -20,7 +20,7 @@ module _ (m : List ℕ) where
   unfolding P.isPartition
   partition? = via (both (both lt? lt?) eq?) (λ ((s, i), l). record { some = s; inside = i; listed = l }) (λ p. ((p .some, p .inside), p .listed))
 
-  -- ---- 1
+  -- ---- sentence 1
 
   pub header? : Tells (T.headerTest m) (S.Header m)
   unfolding T.headerTest
@@ -29,7 +29,7 @@ module _ (m : List ℕ) where
       (λ (((((p, s), r), f), c), z). record { permits = p; size = s; rootWord = r; first = f; currentWord = c; rest = λ i a b. z i (a, b) })
       (λ h. (((((h .permits, h .size), h .rootWord), h .first), h .currentWord), λ i (a, b). h .rest i a b))
 
-  -- ---- 3
+  -- ---- sentence 3
 
   rootDescriptor? : Tells (eqb (P.parent m (P.root m)) 0 && eqb (P.number m (P.root m)) 0 && eqb (P.level m (P.root m)) 0) (S.RootDescriptor m)
   rootDescriptor? = via (both (both eq? eq?) eq?) (λ ((p, n), l). record { noParent = p; noNumber = n; top = l }) (λ r. ((r .noParent, r .noNumber), r .top))
@@ -45,7 +45,7 @@ module _ (m : List ℕ) where
       })
       (λ h. ((λ i (a, b). h .rest i a b), (h .ofRoot, λ n. let o = h .ofOther n in ((((o .parentListed, o .stands), o .there), o .below), o .few))))
 
-  -- ---- 4
+  -- ---- sentence 4
 
   pub entries? : (d : ℕ) → Tells (T.entriesTest m d) (S.Entries m d)
   unfolding T.entriesTest
@@ -57,7 +57,7 @@ module _ (m : List ℕ) where
       })
       (λ s e i n. (s .inHand e n, λ f j q. s .once e f n q))
 
-  -- ---- 5
+  -- ---- sentence 5
 
   rootStructure? : Tells (T.rootStructureTest m) (S.RootStructure m)
   unfolding T.rootStructureTest
@@ -84,7 +84,7 @@ module _ (m : List ℕ) where
       (λ (r, o). record { ofRoot = r; others = λ k n. o k (structure-range m d k n) n })
       (λ s. (s .ofRoot, λ k i n. s .others k n))
 
-  -- ---- 6 to 9
+  -- ---- sentences 6 to 9
 
   form? : {d n : ℕ} → Tells (T.formTest m d n) (S.Form m d n)
   unfolding T.formTest

@@ -28,7 +28,7 @@ module _ (m : List ℕ) (s : Sound m) where
   module _ (d c t : ℕ) (pd : Partition m d) (pt : Partition m t) (nt : t ≢ root m) (up-t : parent m t ≡ d) (number-t : number m t ≡ c)
       (use-c : used m d c ≡ 3) where
     -- every block of these lies in a block of d lent to t
-    pub in-lent : {u : ℕ} → Below m t u → (o x : ℕ) → HasByte m u o x → (n : ℕ) × LentByte m d c n x
+    in-lent : {u : ℕ} → Below m t u → (o x : ℕ) → HasByte m u o x → (n : ℕ) × LentByte m d c n x
     in-lent self o x b =
         let y = up m s (b .live) nt in (
           source m t o,

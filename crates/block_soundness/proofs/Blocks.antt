@@ -70,13 +70,13 @@ module _ (m : List ℕ) (s : Sound m) where
 
   -- ---- inside the source
 
-  pub same-start : (d x y : ℕ) → source m d x ≡ source m d y → sourceStart m d x ≡ sourceStart m d y
+  same-start : (d x y : ℕ) → source m d x ≡ source m d y → sourceStart m d x ≡ sourceStart m d y
   same-start d x y e = rw e
 
   pub same-end : (d x y : ℕ) → source m d x ≡ source m d y → sourceEnd m d x ≡ sourceEnd m d y
   same-end d x y e = rw e
 
-  pub same-link : (d x y : ℕ) → source m d x ≡ source m d y → sourceLink m d x ≡ sourceLink m d y
+  same-link : (d x y : ℕ) → source m d x ≡ source m d y → sourceLink m d x ≡ sourceLink m d y
   same-link d x y e = rw e
 
   from-source : (k d n : ℕ) → Live m d n → start m d n < k → sourceStart m d n ≤ start m d n

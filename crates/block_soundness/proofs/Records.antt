@@ -160,7 +160,7 @@ module _ (m : List ℕ) (s : Sound m) where
       go (yes e) (no f) = held _ _ (struct-held t k p z (λ (a, b). f b) .1)
       go (no e) f = held _ _ (struct-held t k p z (λ (a, b). e a) .1)
 
-  pub home : (r : Record) → Valid m r → Home m r
+  home : (r : Record) → Valid m r → Home m r
   home (desc t) v = desc-home t v
   home (struct t k) v = struct-home t k (v .0) (v .1)
 

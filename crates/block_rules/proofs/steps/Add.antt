@@ -1,4 +1,4 @@
--- Add keeps memory sound. Assumes nothing.
+-- Add keeps memory sound: a free slot of the child is filled, and the caller's block is taken as (2, child, n). Assumes nothing.
 use mathlib.Core.Path.{_≡_, sym, ap, ap₂, _∙_, subst}
 use mathlib.Core.List.{List, [], _∷_}
 use mathlib.Core.Logic.{_≢_}

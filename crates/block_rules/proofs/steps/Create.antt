@@ -1,4 +1,4 @@
--- Create keeps memory sound. Assumes nothing.
+-- Create keeps memory sound: a descriptor is laid into a block in hand and entered in the table (Laid, Entered). Assumes nothing.
 use mathlib.Core.Path.{_≡_, sym, ap, ap₂, _∙_, subst}
 use mathlib.Core.List.{List, [], _∷_}
 use mathlib.Core.Logic.{_≢_, _⊎_, inl, inr}

@@ -1,4 +1,4 @@
--- Cut keeps memory sound. Assumes nothing.
+-- Cut keeps memory sound: a free slot gets the upper part, and the chain of pieces one more (Pieces). Assumes nothing.
 use mathlib.Core.Path.{_≡_, sym, ap, _∙_}
 use mathlib.Core.List.{List, [], _∷_}
 use mathlib.Core.Logic.{_≢_}

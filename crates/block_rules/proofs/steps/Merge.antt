@@ -1,4 +1,4 @@
--- Merge keeps memory sound. Assumes nothing.
+-- Merge keeps memory sound: the higher block's slot is wiped, and the chain of pieces has one fewer (Pieces). Assumes nothing.
 use mathlib.Core.Path.{_≡_, sym, ap, _∙_}
 use mathlib.Core.List.{List, [], _∷_}
 use mathlib.Core.Logic.{_≢_}

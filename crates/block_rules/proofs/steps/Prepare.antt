@@ -1,4 +1,4 @@
--- Prepare keeps memory sound. Assumes nothing.
+-- Prepare keeps memory sound: a structure of free slots is laid into a block in hand and entered in a descriptor (Laid, Entered). Assumes nothing.
 use mathlib.Core.Path.{_≡_, refl, sym, ap, ap₂, _∙_, subst}
 use mathlib.Core.List.{List, [], _∷_}
 use mathlib.Core.Logic.{_≢_}

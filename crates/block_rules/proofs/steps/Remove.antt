@@ -1,4 +1,4 @@
--- Remove keeps memory sound. Assumes nothing.
+-- Remove keeps memory sound: what was lent is one piece in the child's hand, which is disabled and wiped, and the block is given back. Assumes nothing.
 use mathlib.Core.Path.{_≡_, refl, sym, ap, ap₂, _∙_, subst}
 use mathlib.Core.List.{List, [], _∷_}
 use mathlib.Core.Logic.{_≢_}
