@@ -6,14 +6,14 @@ use Prim.Native.Nat.{ℕ, _≤_, _<_}
 use native.Mathlib.Omega.{arith}
 use lib.ListN.{length}
 use Rattle.block_memory.specs.Geometry.{flatBytes}
-use Rattle.block_memory.specs.Partition.{root, Partition, parent, entry, start, end, used, child, source}
+use Rattle.block_memory.specs.Partition.{root, Partition, entry, start, end, used}
 use Rattle.block_memory.specs.Bytes.{Live, HasByte}
 use Rattle.block_memory.specs.Sound.{Sound}
 use Rattle.block_soundness.proofs.Ranges.{entry-range}
 use Rattle.block_soundness.proofs.Blocks.{used-as, block}
 use Rattle.block_soundness.proofs.Once.{once, one-block, siblings}
 use Rattle.block_soundness.proofs.Counted.{counted}
-use Rattle.block_soundness.proofs.Up.{up, same-child, above-first}
+use Rattle.block_soundness.proofs.Up.{up, one-child, above-first}
 use Rattle.block_claim.specs.Kept.{KernelByte, InParent, Kept}
 
 module _ (m : List ℕ) (s : Sound m) where
@@ -36,10 +36,6 @@ module _ (m : List ℕ) (s : Sound m) where
       let u = up m s l h in
       record { lent = u .lent; toThis = u .toThis; low = u .low; high = u .high; noMore = block m s l .sources .ofOther h .noMore }
 
-  one-child : (d e n o : ℕ) → Live m d n → Live m e o → d ≢ root m → e ≢ root m → parent m d ≡ parent m e → source m d n ≡ source m e o → d ≡ e
-  one-child d e n o l k h g p q =
-      same-child m s d e (l .partition) (k .partition) h g p (sym (up m s l h .toThis) ∙ ap₂ (λ (x y : ℕ). child m x y) p q ∙ up m s k g .toThis)
-
   shut : (d e x : ℕ) → Partition m d → entry m d e ≢ 0 → start m d (entry m d e) ≤ x → x < end m d (entry m d e) → KernelByte m x → ⊥
   shut d e x p z a b k =
       let u = s .entries d p .inHand e z in
@@ -51,7 +47,7 @@ module _ (m : List ℕ) (s : Sound m) where
     sound = s;
     oneBlock = λ x a b. one-block m s x (omega arith) (omega arith);
     vertical = vertical;
-    oneChild = one-child;
+    oneChild = one-child m s;
     siblings = siblings m s;
     closed = closed;
     enabled = λ d k p z. let (a, b) = entry-range m d k z in (s .entries d p .inHand k z, a, omega arith);

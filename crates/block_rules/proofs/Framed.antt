@@ -8,14 +8,11 @@ use lib.ListN.{length}
 use Rattle.block_memory.specs.Words.{word}
 use Rattle.block_memory.specs.Partition.{root, current, Partition, parent, number, Has, used, previous}
 use Rattle.block_memory.specs.Sound.{Sound, Table, Entries, Structures, Slot}
-use Rattle.block_soundness.proofs.Ranges.{Permitted, permitted?}
+use Rattle.block_soundness.proofs.Ranges.{Permitted, permitted-now}
 use Rattle.block_soundness.proofs.Records.{layout}
 use Rattle.block_rules.proofs.Frame.{Placed, Frame, to, back, structure-stays}
 use Rattle.block_rules.proofs.Ground.{root-now, header-on, parent-on, number-on}
 use Rattle.block_rules.proofs.Grown.{KernelStays, Grown, words8, descriptor, structure-kept, root-structure}
-
-pub permitted-now : (m : List ℕ) → Sound m → Permitted (length m)
-permitted-now m s = permitted? (length m) .0 (s .header .permits)
 
 pub placed : (m : List ℕ) → Sound m → Placed m
 placed m s = record { permits = permitted-now m s; lay = layout m s }

@@ -18,17 +18,13 @@ pub record Freed (m m₁ w : List ℕ) (d n : ℕ) : Type 0 where
   pub wiped : (g : ℕ) → g < 9 → field w d n g ≡ 0
   pub off : (e : ℕ) → entry w d e ≢ 0 → entry w d e ≢ n
 
-module _ (m m₁ : List ℕ) (q : Placed m) (a : Trail m m₁) (d n : ℕ) (p : Partition m d) (has : Has m d n) where
-  x : Off m m₁ d n
-  x = off q a p
-
-  y : Wrote m (disable m₁ d n) d n 0 (replicate 9 0)
-  y = wrote q (x .trail) p (omega arith)
-
-  pub free : Freed m m₁ (freeSlot (disable m₁ d n) d n) d n
-  free = record {
-    trail = y .trail;
-    others = λ u o g v i away. y .others u o g v i (λ (e, f, z, k). away (e, f)) ∙ x .fields u o g v i;
-    wiped = λ g i. ap (field (freeSlot (disable m₁ d n) d n) d n) (omega arith) ∙ y .at has g (omega arith) ∙ getD-replicate 9 g 0 0 i;
-    off = λ e z f. let k = y .entries d e p in x .entries e (λ b. z (k ∙ b)) (sym k ∙ f);
-  }
+pub free : {m m₁ : List ℕ} {d n : ℕ} → Placed m → Trail m m₁ → Partition m d → Has m d n → Freed m m₁ (freeSlot (disable m₁ d n) d n) d n
+free {m} {m₁} {d} {n} q a p has =
+    let x : Off m m₁ d n = off q a p in
+    let y : Wrote m (disable m₁ d n) d n 0 (replicate 9 0) = wrote q (x .trail) p (omega arith) in
+    record {
+      trail = y .trail;
+      others = λ t o g v i away. y .others t o g v i (λ (e, f, z, k). away (e, f)) ∙ x .fields t o g v i;
+      wiped = λ g i. ap (field (freeSlot (disable m₁ d n) d n) d n) (omega arith) ∙ y .at has g (omega arith) ∙ getD-replicate 9 g 0 0 i;
+      off = λ e z f. let k = y .entries d e p in x .entries e (λ w. z (k ∙ w)) (sym k ∙ f);
+    }

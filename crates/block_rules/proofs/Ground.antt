@@ -16,8 +16,8 @@ use Rattle.block_memory.specs.Bytes.{Live}
 use Rattle.block_memory.specs.Sound.{Sound, Header, Descriptor, StandsIn, Structure, RootStructure, Slot, Use, Source, Pieces}
 use Rattle.block_soundness.proofs.Blocks.{block, before, after}
 use Rattle.block_rules.proofs.Keep.{Front, Back, pieces-of, block-slot, wiped-slot, Same, FirstStays, PriorStays, LaterStays, Was}
-use Rattle.block_rules.proofs.Uses.{in-hand}
 use Rattle.block_rules.proofs.Keep.{later-from, form-kept, use-kept, source-from, front-from, back-from}
+use Rattle.block_rules.proofs.Uses.{in-hand}
 
 module _ (m m' : List ℕ) (s : Sound m) (size : length m' ≡ length m) where
   pub root-now : root m' ≡ root m
@@ -53,6 +53,7 @@ module _ (m m' : List ℕ) (s : Sound m) (size : length m' ≡ length m) where
   level-on : (d : ℕ) → Words8 d → level m' d ≡ level m d
   level-on d w = w 2 (omega arith)
 
+  -- the parent, and the block of its pool that d stands in
   pub record Above (d : ℕ) : Type 0 where
     pub listed : Partition m' (parent m d)
     pub words : Words8 (parent m d)
@@ -91,6 +92,7 @@ module _ (m m' : List ℕ) (s : Sound m) (size : length m' ≡ length m) where
   abbrev pub Words2 : ℕ → Type 0
   Words2 i = (g : ℕ) → g < 2 → word m' (i + g) ≡ word m (i + g)
 
+  -- use, child and link of block n of h, that a structure stands in
   abbrev pub Held : ℕ → ℕ → Type 0
   Held h n = Same m m' h n 3 × Same m m' h n 4 × Same m m' h n 5
 
@@ -173,6 +175,7 @@ module _ (m m' : List ℕ) (s : Sound m) (size : length m' ≡ length m) where
       pub prior : PriorStays m m' d n
       pub later : LaterStays m m' d n
 
+    -- .. stay where words other than use, child and link do
     pub beside-on : ((o g : ℕ) → Live m d o → g < 9 → ¬ ((3 ≤ g) × (g < 6)) → Same m m' d o g) → Beside
     beside-on same = record {
       prior = λ z. same _ 8 (before m s l z .alive) (omega arith) (omega arith);
@@ -238,11 +241,13 @@ module _ (m m' : List ℕ) (s : Sound m) (size : length m' ≡ length m) where
           pieces = x .1;
         })
 
+    -- .. is given back
     pub given-back : Words8 d → ((g : ℕ) → g < 9 → ¬ ((3 ≤ g) × (g < 6)) → Same m m' d n g) → used m' d n ≡ 1 → child m' d n ≡ 0 → link m' d n ≡ 0
         → SourceStays d n → Beside → Slot m' d n
     given-back w same hand noChild noLink lent by =
         turned w same (λ z. omega (arith, z, hand)) (omega (arith, hand)) (in-hand hand (record { noChild = noChild; noLink = noLink })) lent by
 
+  -- a free slot
   pub free-on : (d n : ℕ) → Partition m d → Has m d n → used m d n ≡ 0 → ((g : ℕ) → g < 9 → Same m m' d n g) → Slot m' d n
   free-on d n p h e same = wiped-slot (λ g i. same g i ∙ s .slots d n p h .free e g i)
 

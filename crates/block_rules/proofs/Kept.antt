@@ -13,8 +13,8 @@ use Rattle.block_soundness.proofs.Child.{lends}
 use Rattle.block_rules.proofs.Frame.{Frame}
 use Rattle.block_rules.proofs.EntryWrite.{SameFields}
 use Rattle.block_rules.proofs.Disabled.{FewerEntries}
-use Rattle.block_rules.proofs.Keep.{Front, Back, Same, FirstStays, PriorStays, LaterStays, later-from, Was}
-use Rattle.block_rules.proofs.Ground.{Words8, Named, SourceStays, source-on, front-on, back-on, slot-behind, still-on}
+use Rattle.block_rules.proofs.Keep.{Front, Back, Same, FirstStays, LaterStays, Was}
+use Rattle.block_rules.proofs.Ground.{Words8, Named, SourceStays, Beside, beside-on, source-on, front-on, back-on, slot-behind, still-on}
 use Rattle.block_rules.proofs.Grown.{KernelStays, words8, names}
 use Rattle.block_rules.proofs.Framed.{grown, framed}
 
@@ -39,10 +39,10 @@ module _ (m m' : List ℕ) (s : Sound m) (f : Frame m m') (kernel : KernelStays 
 
   -- a slot whose words all stay
   pub unwritten-stays : (d n : ℕ) → Partition m d → Has m d n → ((g : ℕ) → g < 9 → Same m m' d n g)
-      → (Live m d n → FirstStays m m' d n × SourceStays m m' s (f .size) d n × PriorStays m m' d n × LaterStays m m' d n) → Slot m' d n
+      → ((l : Live m d n) → FirstStays m m' d n × SourceStays m m' s (f .size) d n × Beside m m' s (f .size) l) → Slot m' d n
   unwritten-stays d n p h same by = still-on m m' s (f .size) d n p h (words8 m m' s (grown m m' s f) d p) same (λ l.
-      let (first, lent, prior, later) = by l in
-      (names-stay l first, lent, record { prior = prior; later = later }))
+      let (first, lent, beside) = by l in
+      (names-stay l first, lent, beside))
 
   -- a block whose own words stay, but maybe for previous
   pub behind-stays : {d n : ℕ} → Live m d n → ((g : ℕ) → g < 9 → g ≢ 7 → Same m m' d n g) → FirstStays m m' d n → SourceStays m m' s (f .size) d n
@@ -73,8 +73,7 @@ module _ (m m' : List ℕ) (s : Sound m) (f : Frame m m') (same : SameFields m m
   slots d n p h = unwritten-stays m m' s f all-stay d n p h (λ g i. same d n g p i) (λ l. (
     (λ e. let t = lent-child m s d n l e in (same _ _ 6 t (omega arith), same _ _ 7 t (omega arith))),
     (λ e g i. same _ _ g (up m s l e .alive .partition) (omega arith)),
-    (λ e. same _ _ 8 p (omega arith)),
-    later-from m m' d n (λ e g i. same _ _ g p (omega arith)),
+    beside-on m m' s (f .size) l (λ o g b i a. same d o g p i),
   ))
 
   pub fields-stay : Partition m (current m') → ((d : ℕ) → Partition m d → Entries m' d) → Sound m'

@@ -92,7 +92,7 @@ module _ (m : List ℕ) (s : Sound m) (d b u c l : ℕ) (p : Partition m d) (han
   has-b = field-has m d b 3 (λ z. omega (arith, z, hand))
 
   t : Taken m m w d b (u ∷ c ∷ l ∷ [])
-  t = take m m q (trail m q) d b u c l p has-b
+  t = take q (trail m q) p has-b
 
   x-size : length x ≡ length m
   x-size = length-overwrite w i₀ ws ∙ t .trail .frame .size

@@ -158,7 +158,7 @@ module _ {m m' : List ℕ} {s : Sound m} {d l h a b : ℕ} (c : Chain m s d l h 
   other-slot t o v i ah al ax =
       let k : (g : ℕ) → g < 9 → Same m m' t o g = λ g j.
       r .others t o g v j ah (λ (y, z, w). al (y, z)) (λ (y, z, w). al (y, z)) (λ (y, z, w). ax (y, z)) in
-      unwritten-stays m m' s frame kernel t o v i k (λ x. (first x, lent x, prior x ah ax, later x ah al))
+      unwritten-stays m m' s frame kernel t o v i k (λ x. (first x, lent x, record { prior = prior x ah ax; later = later x ah al }))
 
   slots : Slot m' d h → Slot m' d l → (t o : ℕ) → Partition m t → Has m t o → Slot m' t o
   slots sh sl t o v i =

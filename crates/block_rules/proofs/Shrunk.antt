@@ -13,7 +13,7 @@ use Rattle.block_memory.specs.Partition.{root, Partition, parent, structure, Ha
 use Rattle.block_memory.specs.Bytes.{Live}
 use Rattle.block_memory.specs.Sound.{Sound, Entries, Structure, Structures, Slot}
 use Rattle.block_memory.proofs.Lookups.{inStructure, structure-same, entry-same, field-at, field-same}
-use Rattle.block_soundness.proofs.Ranges.{Permitted, table-has}
+use Rattle.block_soundness.proofs.Ranges.{permitted-now, Permitted, table-has}
 use Rattle.block_soundness.proofs.Blocks.{used-as, block, field-has, first-in-root, number-some}
 use Rattle.block_soundness.proofs.Levels.{same-word}
 use Rattle.block_soundness.proofs.Records.{Record, desc, struct, structure-of}
@@ -21,7 +21,6 @@ use Rattle.block_soundness.proofs.Up.{up}
 use Rattle.block_rules.proofs.Keep.{Same}
 use Rattle.block_rules.proofs.Ground.{root-now, header-on, Words8, Words2, descriptor-on, Held, structure-on, root-structure-on}
 use Rattle.block_rules.proofs.Ground.{Named, SourceStays, Beside, beside-on, slot-on, given-back, free-on}
-use Rattle.block_rules.proofs.Framed.{permitted-now}
 use Rattle.block_rules.proofs.Kept.{first-piece, entries-kept}
 use Rattle.block_rules.proofs.Leaving.{backWords, Back, lent, holdsDescriptor, holdsStructure, Leaving, back-some, hand-here, desc-here, kid-back, back?}
 use Rattle.block_rules.proofs.Leaving.{parent-stays, own-block, source-block, structure-block}

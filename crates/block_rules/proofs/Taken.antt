@@ -18,20 +18,13 @@ pub record Taken (m m₁ w : List ℕ) (d b : ℕ) (three : List ℕ) : Type 0 w
   pub changed : (g : ℕ) → g < 3 → field w d b (3 + g) ≡ getD three g 0
   pub off : (e : ℕ) → entry w d e ≢ 0 → entry w d e ≢ b
 
-module _ (m m₁ : List ℕ) (q : Placed m) (a : Trail m m₁) (d b u c l : ℕ) (p : Partition m d) (has : Has m d b) where
-  abbrev three : List ℕ
-  three = u ∷ c ∷ l ∷ []
-
-  o : Off m m₁ d b
-  o = off q a p
-
-  w : Wrote m (disable m₁ d b) d b 3 three
-  w = wrote q (o .trail) p (omega arith)
-
-  pub take : Taken m m₁ (takeAs m₁ d b u c l) d b three
-  take = record {
-    trail = w .trail;
-    others = λ t n g v i away. w .others t n g v i away ∙ o .fields t n g v i;
-    changed = w .at has;
-    off = λ e z f. let k = w .entries d e p in o .entries e (λ y. z (k ∙ y)) (sym k ∙ f);
-  }
+pub take : {m m₁ : List ℕ} {d b u c l : ℕ} → Placed m → Trail m m₁ → Partition m d → Has m d b → Taken m m₁ (takeAs m₁ d b u c l) d b (u ∷ c ∷ l ∷ [])
+take {m} {m₁} {d} {b} {u} {c} {l} q a p has =
+    let x : Off m m₁ d b = off q a p in
+    let y : Wrote m (disable m₁ d b) d b 3 (u ∷ c ∷ l ∷ []) = wrote q (x .trail) p (omega arith) in
+    record {
+      trail = y .trail;
+      others = λ t o g v i away. y .others t o g v i away ∙ x .fields t o g v i;
+      changed = y .at has;
+      off = λ e z f. let k = y .entries d e p in x .entries e (λ w. z (k ∙ w)) (sym k ∙ f);
+    }

@@ -11,7 +11,7 @@ use Rattle.block_memory.specs.Geometry.{tableWords}
 use Rattle.block_memory.specs.Words.{word}
 use Rattle.block_memory.specs.Partition.{Partition, parent, level}
 use Rattle.block_memory.specs.Sound.{Sound}
-use Rattle.block_soundness.proofs.Ranges.{permitted?, table-has}
+use Rattle.block_soundness.proofs.Ranges.{permitted-now, table-has}
 use Rattle.block_soundness.proofs.Up.{other}
 
 -- ---- numbers below n with no repeat are n at most
@@ -100,7 +100,6 @@ module _ (m : List ℕ) (s : Sound m) where
   pub room-below : (d j : ℕ) → Partition m d → j < tableWords (length m) → ((e : ℕ) → Partition m e → e / 32 ≢ j) → level m d + 1 < tableWords (length m)
   unfolding count
   room-below d j p h free =
-      let per = permitted? (length m) .0 (s .header .permits) in
       let k = level m d in
       omega (
         arith,
@@ -115,6 +114,6 @@ module _ (m : List ℕ) (s : Sound m) where
             ])
             (λ x c. elim (ℕ-discrete x j) [
               | yes q ↦ omega arith
-              | no q ↦ let (f, a, b, g) = in-line k d x p refl (omega (arith, hit-other x j q)) in omega (arith, table-has m per f a, b)
+              | no q ↦ let (f, a, b, g) = in-line k d x p refl (omega (arith, hit-other x j q)) in omega (arith, table-has m (permitted-now m s) f a, b)
             ]),
       )

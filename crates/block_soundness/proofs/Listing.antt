@@ -16,14 +16,11 @@ use Rattle.block_memory.specs.Partition.{Partition, partitions, level, hasByte,
 use Rattle.block_memory.specs.Bytes.{HasByte}
 use Rattle.block_memory.specs.Sound.{Sound}
 use Rattle.block_memory.proofs.Lowest.{lowest-some, lowest-none, zero-out}
-use Rattle.block_soundness.proofs.Ranges.{Permitted, permitted?, table-has, has-range}
+use Rattle.block_soundness.proofs.Ranges.{permitted-now, table-has, has-range}
 use Rattle.block_soundness.proofs.Blocks.{field-has}
 use Rattle.block_soundness.proofs.Once.{equal-level}
 
 module _ (m : List ℕ) (s : Sound m) where
-  per : Permitted (length m)
-  per = permitted? (length m) .0 (s .header .permits)
-
   -- the table's word j, the numbers of its words, and the words
   abbrev at : ℕ → ℕ
   at j = word m (8 + j)
@@ -54,7 +51,7 @@ module _ (m : List ℕ) (s : Sound m) where
   pub in-list : (u : ℕ) → Partition m u → 0 < count u (partitions m)
   unfolding partitions
   in-list u p =
-      let i : 0 < count (u / 32) indices = below (length m / 32) (u / 32) .1 (table-has m per u p) in
+      let i : 0 < count (u / 32) indices = below (length m / 32) (u / 32) .1 (table-has m (permitted-now m s) u p) in
       let a : 0 < count (at (u / 32)) words = in-image at (u / 32) indices i in
       keep-in isn't-0 u words .1 (omega (arith, a, ap (λ (x : ℕ). count x words) (p .listed)), isn't {P = u ≡ 0} eq? .1 (λ z. omega (arith, z, p .some)))
 

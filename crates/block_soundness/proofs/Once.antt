@@ -7,12 +7,12 @@ use native.Mathlib.Omega.{arith}
 use native.Mathlib.Decide.{ℕ-discrete, decLe, decLt}
 use lib.ListN.{length}
 use Rattle.block_memory.specs.Geometry.{tableWords, firstByte}
-use Rattle.block_memory.specs.Partition.{root, Partition, parent, number, level, start, end, used, child, link, source, next, place}
+use Rattle.block_memory.specs.Partition.{root, Partition, parent, level, start, end, used, child, link, source, next, place}
 use Rattle.block_memory.specs.Bytes.{Live, HasByte, Keeps}
 use Rattle.block_memory.specs.Sound.{Sound, sourceEnd}
 use Rattle.block_soundness.proofs.Sources.{root-start, root-end}
 use Rattle.block_soundness.proofs.Blocks.{block, first-in-root, long, after, same-end, Apart, equal, below, above, apart}
-use Rattle.block_soundness.proofs.Up.{root-level, other, top-root, up, up-byte, same-child}
+use Rattle.block_soundness.proofs.Up.{root-level, other, top-root, up, up-byte, one-child}
 use Rattle.block_soundness.proofs.Child.{lends}
 
 module _ (m : List ℕ) (s : Sound m) where
@@ -44,8 +44,7 @@ module _ (m : List ℕ) (s : Sound m) where
       let v = up m s (b .live) g in
       let (p, q) = equal-level k (parent m d) (parent m e) (source m d n) (source m e o) x
       (omega (arith, u .step)) (omega (arith, v .step)) (up-byte m s a h) (up-byte m s b g) in
-      let c : number m d ≡ number m e = sym (u .toThis) ∙ ap₂ (λ (y z : ℕ). child m y z) p q ∙ v .toThis in
-      in-one a b (same-child m s d e (a .live .partition) (b .live .partition) h g p c) q
+      in-one a b (one-child m s d e n o (a .live) (b .live) h g p q) q
 
   -- a block that isn't lent has no byte with one at its level or deeper
   pub deeper : (k d e n o x : ℕ) → level m d + k ≡ level m e → HasByte m d n x → HasByte m e o x → used m d n ≢ 2 → (d ≡ e) × (n ≡ o)

@@ -1,4 +1,4 @@
--- Which numbers entries, structures and slots have, and which partitions the table lists. Assumes nothing.
+-- Which numbers entries, structures and slots have, which lengths are permitted, and that the table has a word for each partition. Assumes nothing.
 use mathlib.Core.Path.{_≡_, refl}
 use mathlib.Core.List.{List}
 use mathlib.Core.Logic.{_≢_, _↔_}
@@ -12,6 +12,7 @@ use Rattle.walk.specs.Reflect.{Tells, via, both, eq?, le?}
 use Rattle.walk.specs.Finite.{from, from-in, in-from}
 use Rattle.block_memory.specs.Geometry.{kib, leastKib, mostKib, permitted, tableWords}
 use Rattle.block_memory.specs.Partition.{Partition, entry, structure, Has}
+use Rattle.block_memory.specs.Sound.{Sound}
 
 pub range : (n i x : ℕ) → (0 < count x (from n i)) ↔ ((i ≤ x) × (x < i + n))
 range n i x = (from-in n i x, λ (a, b). in-from n i x a b)
@@ -42,6 +43,9 @@ pub record Permitted (w : ℕ) : Type 0 where
 pub permitted? : (w : ℕ) → Tells (permitted w) (Permitted w)
 unfolding permitted
 permitted? w = via (both (both eq? le?) le?) (λ ((a, b), c). record { whole = a; least = b; most = c }) (λ p. ((p .whole, p .least), p .most))
+
+pub permitted-now : (m : List ℕ) → Sound m → Permitted (length m)
+permitted-now m s = permitted? (length m) .0 (s .header .permits)
 
 -- the table has a word for each partition
 pub table-has : (m : List ℕ) → Permitted (length m) → (d : ℕ) → Partition m d → d / 32 < tableWords (length m)

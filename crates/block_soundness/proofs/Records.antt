@@ -15,7 +15,7 @@ use Rattle.block_memory.specs.Words.{word}
 use Rattle.block_memory.specs.Partition.{root, Partition, parent, number, structure, end, used, child, link, place, named, holder}
 use Rattle.block_memory.specs.Bytes.{Live, HasByte, Keeps}
 use Rattle.block_memory.specs.Sound.{Sound}
-use Rattle.block_soundness.proofs.Ranges.{permitted?}
+use Rattle.block_soundness.proofs.Ranges.{permitted-now}
 use Rattle.block_soundness.proofs.Blocks.{used-as, block, number-some}
 use Rattle.block_soundness.proofs.Up.{above-first}
 use Rattle.block_soundness.proofs.Child.{named-own, named-child, named-partition}
@@ -197,7 +197,7 @@ module _ (m : List ℕ) (s : Sound m) where
   inside r v = go (home r v)
     where
       large : root m + descriptorWords + structureWords ≤ length m
-      large = let p = permitted? (length m) .0 (s .header .permits) in omega (arith, p .whole, p .least)
+      large = let p = permitted-now m s in omega (arith, p .whole, p .least)
 
       go : Home m r → base m r + words r ≤ length m
       go (first e) = omega (arith, large, own-low r (desc (root m)) e (omega arith))

@@ -18,7 +18,7 @@ use Rattle.block_memory.specs.Partition.{numbers, structureNumbers, root, Parti
 use Rattle.block_memory.specs.Bytes.{Live}
 use Rattle.block_memory.specs.Sound.{Sound}
 use Rattle.block_soundness.specs.Counts.{size, descriptorBytes, structureBytes}
-use Rattle.block_soundness.proofs.Ranges.{permitted?, has-range, structure-range}
+use Rattle.block_soundness.proofs.Ranges.{permitted-now, has-range, structure-range}
 use Rattle.block_soundness.proofs.Blocks.{used-as, block, field-has}
 use Rattle.block_soundness.proofs.Up.{above-first}
 use Rattle.block_soundness.proofs.Records.{desc-in, struct-held}
@@ -105,7 +105,7 @@ module _ (m : List ℕ) where
 
 module _ (m : List ℕ) (s : Sound m) where
   pub large : firstByte (length m) ≤ 4 * length m
-  large = let p = permitted? (length m) .0 (s .header .permits) in omega (arith, p .whole, p .least)
+  large = let p = permitted-now m s in omega (arith, p .whole, p .least)
 
   whole : (d n : ℕ) → Live m d n → sumOf (at m d n) (bytes m) ≡ size m d n
   whole d n l =

@@ -54,6 +54,11 @@ module _ (m : List ℕ) (s : Sound m) where
   same-child d e p q h k a b =
       sym (s .descriptors d p .ofOther h .there) ∙ ap₂ (λ (x y : ℕ). place m x y) a b ∙ s .descriptors e q .ofOther k .there
 
+  -- .. and by a block that it came from
+  pub one-child : (d e n o : ℕ) → Live m d n → Live m e o → d ≢ root m → e ≢ root m → parent m d ≡ parent m e → source m d n ≡ source m e o → d ≡ e
+  one-child d e n o l k h g p q =
+      same-child d e (l .partition) (k .partition) h g p (sym (up l h .toThis) ∙ ap₂ (λ (x y : ℕ). child m x y) p q ∙ up k g .toThis)
+
   -- ---- every block lies in the starting block
 
   floor : (k d n : ℕ) → level m d ≡ k → Live m d n → (firstByte (length m) ≤ start m d n)

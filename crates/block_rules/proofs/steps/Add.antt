@@ -56,7 +56,7 @@ module _ (m : List ℕ) (s : Sound m) (d c b r : ℕ) (p : Partition m d) (stand
   added = wrote q (trail m q) (kid .listed) (omega arith)
 
   taken : Taken m m₁ now d b (2 ∷ c ∷ n ∷ [])
-  taken = take m m₁ q (added .trail) d b 2 c n p (field-has m d b 3 (live-b .block))
+  taken = take q (added .trail) p (field-has m d b 3 (live-b .block))
 
   frame : Frame m now
   frame = taken .trail .frame

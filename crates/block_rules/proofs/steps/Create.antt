@@ -13,12 +13,11 @@ use Rattle.block_memory.specs.Partition.{root, Partition, parent, number, level
 use Rattle.block_memory.specs.Sound.{Sound, Descriptor, Slot, Use}
 use Rattle.block_memory.proofs.Lists.{after-three}
 use Rattle.block_memory.proofs.Lookups.{entry-at, structure-at}
-use Rattle.block_soundness.proofs.Ranges.{entry-range, structure-range}
+use Rattle.block_soundness.proofs.Ranges.{permitted-now, entry-range, structure-range}
 use Rattle.block_soundness.proofs.Levels.{room-below}
 use Rattle.block_soundness.proofs.Records.{desc, low}
 use Rattle.block_rules.specs.Effects.{createIn}
 use Rattle.block_rules.proofs.Ground.{root-now}
-use Rattle.block_rules.proofs.Framed.{permitted-now}
 use Rattle.block_rules.proofs.Uses.{holds-descriptor}
 use Rattle.block_rules.proofs.Room.{above-own, in-memory, clear-of}
 use Rattle.block_rules.proofs.Laid.{Unused, Laid, entered, lay}

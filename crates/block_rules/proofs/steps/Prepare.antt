@@ -17,7 +17,7 @@ use Rattle.block_memory.specs.Sound.{Sound, StandsIn, Structure, Slot, Use}
 use Rattle.block_memory.proofs.Lists.{after-two}
 use Rattle.block_memory.proofs.Lookups.{inStructure, structure-at, field-at}
 use Rattle.block_memory.proofs.Lowest.{free-structure}
-use Rattle.block_soundness.proofs.Ranges.{table-has}
+use Rattle.block_soundness.proofs.Ranges.{permitted-now, table-has}
 use Rattle.block_soundness.proofs.Blocks.{used-as}
 use Rattle.block_soundness.proofs.Records.{Record, desc, desc-is, words, base, Valid, low, layout}
 use Rattle.block_soundness.proofs.Child.{named-own, named-child, named-partition, ChildOf, child-of}
@@ -25,7 +25,6 @@ use Rattle.block_rules.specs.Effects.{prepareFor}
 use Rattle.block_rules.proofs.Keep.{this-or, wiped-slot, Same, named-same}
 use Rattle.block_rules.proofs.Ground.{root-now, parent-on, number-on}
 use Rattle.block_rules.proofs.Grown.{words8}
-use Rattle.block_rules.proofs.Framed.{permitted-now}
 use Rattle.block_rules.proofs.Uses.{holds-structure}
 use Rattle.block_rules.proofs.Room.{above-own, clear-of}
 use Rattle.block_rules.proofs.Laid.{Spare, Unused, Laid, entered, lay}

@@ -6,11 +6,11 @@ use Prim.Native.Nat.{ℕ, suc, _+_, _≤_, _<_}
 use native.Mathlib.Omega.{arith}
 use native.Mathlib.Decide.{ℕ-discrete}
 use lib.ListN.{getD}
-use Rattle.block_memory.specs.Partition.{root, Partition, parent, number, entry, Has, field, start, end, used, child, link, source, previous, next, place}
+use Rattle.block_memory.specs.Partition.{root, Partition, parent, entry, Has, field, start, end, used, child, link, source, previous, next, place}
 use Rattle.block_memory.specs.Bytes.{Live}
 use Rattle.block_memory.specs.Sound.{Sound, Slot}
 use Rattle.block_soundness.proofs.Blocks.{used-as, block, field-has, number-some, before, after, long, Apart, equal, below, above, apart, starts-in, ends-in}
-use Rattle.block_soundness.proofs.Up.{up, same-child}
+use Rattle.block_soundness.proofs.Up.{up, one-child}
 use Rattle.block_soundness.proofs.Sources.{source-start, source-end}
 use Rattle.block_soundness.proofs.Child.{ChildOf, child-of}
 use Rattle.block_rules.specs.Effects.{disable, giveBack, freeSlot, removeFrom}
@@ -55,7 +55,7 @@ module _ (m : List ℕ) (s : Sound m) (d c b : ℕ) (p : Partition m d) (stands 
   -- ---- the words afterwards
 
   freed : Freed m m m₁ t n
-  freed = free m m q (trail m q) t n (kid .listed) (field-has m t n 3 (live-n .block))
+  freed = free q (trail m q) (kid .listed) (field-has m t n 3 (live-n .block))
 
   given : Wrote m m₁ d b 3 back
   given = wrote q (freed .trail) p (omega arith)
@@ -139,9 +139,7 @@ module _ (m : List ℕ) (s : Sound m) (d c b : ℕ) (p : Partition m d) (stands 
   -- a block that came from b is n
   from-b : (u o : ℕ) (l : Live m u o) → u ≢ root m → parent m u ≡ d → source m u o ≡ b → (u ≡ t) × (o ≡ n)
   from-b u o l e y z =
-      let x = up m s l e in
-      let i : number m u ≡ number m t = sym (x .toThis) ∙ ap₂ (λ (k w : ℕ). child m k w) y z ∙ to-c ∙ sym (kid .numberWord) in
-      let w : u ≡ t = same-child m s u t (l .partition) (kid .listed) e (kid .notRoot) (y ∙ sym (kid .parentWord)) i in
+      let w : u ≡ t = one-child m s u t o n l live-n e (kid .notRoot) (y ∙ sym (kid .parentWord)) (z ∙ sym source-n) in
       (w, only o (subst (λ (k : ℕ). Live m k o) w l) (ap (λ (k : ℕ). source m k o) (sym w) ∙ z))
 
   lent : (u o : ℕ) → Live m u o → ¬ ((u ≡ t) × (o ≡ n)) → SourceStays m now s (frame .size) u o
@@ -176,7 +174,7 @@ module _ (m : List ℕ) (s : Sound m) (d c b : ℕ) (p : Partition m d) (stands 
   slots : (u o : ℕ) → Partition m u → Has m u o → Slot now u o
   slots u o v i = this-or (Slot now) t n u o child-slot (λ an. this-or (Slot now) d b u o back-slot (λ ab.
       unwritten-stays m now s frame kernel u o v i (λ g j. others u o g v j an (λ (y, z, w, x). ab (y, z)))
-      (λ l. (first u o l ab, lent u o l an, beside u o l .prior, beside u o l .later))))
+      (λ l. (first u o l ab, lent u o l an, beside u o l))))
 
   pub remove-sound : Sound (removeFrom m d c b)
   unfolding removeFrom
