@@ -5,11 +5,12 @@ use mathlib.Core.Logic.{_≢_, _⊎_, inl, inr}
 use Prim.Native.Nat.{ℕ, zero, suc, _+_, _-_, _*_, _<_}
 use native.Mathlib.Omega.{arith}
 use native.Mathlib.Decide.{ℕ-discrete, decLt}
-use Rattle.block_memory.specs.Partition.{root, Partition, parent, number, level, used, child, source}
+use Rattle.block_memory.specs.Partition.{root, Partition, parent, number, level, used, child, source, place}
 use Rattle.block_memory.specs.Tree.{Below, self, under}
-use Rattle.block_memory.specs.Bytes.{HasByte, Keeps}
+use Rattle.block_memory.specs.Bytes.{Live, HasByte, Keeps}
 use Rattle.block_memory.specs.Sound.{Sound}
 use Rattle.block_soundness.proofs.Blocks.{used-as, block, number-some}
+use Rattle.block_soundness.proofs.Child.{ChildOf, child-of}
 use Rattle.block_soundness.proofs.Once.{equal-level, deeper, once}
 use Rattle.block_soundness.proofs.Records.{in-bytes, desc-in}
 use Rattle.block_soundness.proofs.Up.{other, up, up-byte, same-child, above-first}
@@ -25,24 +26,33 @@ module _ (m : List ℕ) (s : Sound m) where
   stands : (u : ℕ) → Partition m u → u ≢ root m → Keeps m (parent m u) (number m u) (4 * u)
   stands u p h = subst (λ (x : ℕ). Keeps m (parent m u) (number m u) (4 * x)) (omega arith) (in-bytes m s (desc-in m s u p h) 0 (omega arith))
 
-  module _ (d c t : ℕ) (pd : Partition m d) (pt : Partition m t) (nt : t ≢ root m) (up-t : parent m t ≡ d) (number-t : number m t ≡ c)
-      (use-c : used m d c ≡ 3) where
+  -- t is d's child of the number c; "these" are t and its descendants
+  module _ (d c : ℕ) (pd : Partition m d) (use-c : used m d c ≡ 3) where
+    abbrev t : ℕ
+    t = place m d c
+
+    kid : ChildOf m d c t
+    kid = child-of m s d c pd use-c
+
+    live-c : Live m d c
+    live-c = used-as pd use-c
+
     -- every block of these lies in a block of d lent to t
     in-lent : {u : ℕ} → Below m t u → (o x : ℕ) → HasByte m u o x → (n : ℕ) × LentByte m d c n x
     in-lent self o x b =
-        let y = up m s (b .live) nt in (
+        let y = up m s (b .live) (kid .notRoot) in (
           source m t o,
           record {
-            has = subst (λ (z : ℕ). HasByte m z (source m t o) x) up-t (up-byte m s b nt);
-            lent = ap (λ (z : ℕ). used m z (source m t o)) (sym up-t) ∙ y .lent;
-            toChild = ap (λ (z : ℕ). child m z (source m t o)) (sym up-t) ∙ y .toThis ∙ number-t;
+            has = subst (λ (z : ℕ). HasByte m z (source m t o) x) (kid .parentWord) (up-byte m s b (kid .notRoot));
+            lent = ap (λ (z : ℕ). used m z (source m t o)) (sym (kid .parentWord)) ∙ y .lent;
+            toChild = ap (λ (z : ℕ). child m z (source m t o)) (sym (kid .parentWord)) ∙ y .toThis ∙ kid .numberWord;
           },
         )
     in-lent (under u p h w) o x b = in-lent w (source m u o) x (up-byte m s b h)
 
     -- so their descriptors stand in c or in such a block
     pub below-byte : {u : ℕ} → Below m t u → HasByte m d c (4 * u) ⊎ ((n : ℕ) × LentByte m d c n (4 * u))
-    below-byte self = inl (subst (λ (z : ℕ). HasByte m z c (4 * t)) up-t (subst (λ (z : ℕ). HasByte m (parent m t) z (4 * t)) number-t (stands t pt nt .has)))
+    below-byte self = inl (record { live = live-c; from = omega arith; upTo = omega (arith, block m s live-c .uses .use3 use-c .room) })
     below-byte (under u p h w) = inr (in-lent w (number m u) (4 * u) (stands u p h .has))
 
     -- a block with a byte of one lent to t is of one of these
@@ -51,8 +61,8 @@ module _ (m : List ℕ) (s : Sound m) where
         let g = other m s e (omega arith) in
         let y = up m s (b .live) g in
         let (i, j) = equal-level m s (level m d) (parent m e) d (source m e o) n x (omega (arith, y .step)) refl (up-byte m s b g) (l .has) in
-        let a : number m e ≡ number m t = sym (y .toThis) ∙ ap₂ (λ (u v : ℕ). child m u v) i j ∙ l .toChild ∙ sym number-t in
-        subst (Below m t) (sym (same-child m s e t (b .live .partition) pt g nt (i ∙ sym up-t) a)) self
+        let a : number m e ≡ number m t = sym (y .toThis) ∙ ap₂ (λ (u v : ℕ). child m u v) i j ∙ l .toChild ∙ sym (kid .numberWord) in
+        subst (Below m t) (sym (same-child m s e t (b .live .partition) (kid .listed) g (kid .notRoot) (i ∙ sym (kid .parentWord)) a)) self
     from-lent (suc k) e o n x h b l =
         let g = other m s e (omega arith) in
         let y = up m s (b .live) g in
@@ -65,7 +75,7 @@ module _ (m : List ℕ) (s : Sound m) where
     in-child u p b =
         let h = not-root u c b in
         let (i, j) = once m s (parent m u) d (number m u) c (4 * u) (stands u p h) (record { has = b; notLent = λ z. omega (arith, z, use-c) }) in
-        same-child m s u t p pt h nt (i ∙ sym up-t) (j ∙ sym number-t)
+        same-child m s u t p (kid .listed) h (kid .notRoot) (i ∙ sym (kid .parentWord)) (j ∙ sym (kid .numberWord))
 
     in-child-below : (u : ℕ) → Partition m u → HasByte m d c (4 * u) → Below m t u
     in-child-below u p b = subst (Below m t) (sym (in-child u p b)) self
@@ -92,7 +102,7 @@ module _ (m : List ℕ) (s : Sound m) where
           let k = stands u p h in
           let (i, j) = once m s (parent m u) d (number m u) n (4 * u) k (record { has = b; notLent = z }) in
           let w : used m d n ≡ 3 = ap₂ (λ (x y : ℕ). used m x y) (sym i) (sym j) ∙ s .descriptors u p .ofOther h .stands in
-          absurd (omega (arith, block m s (b .live) .uses .use3 w .noChild, e, number-some m s (used-as pd use-c)))
+          absurd (omega (arith, block m s (b .live) .uses .use3 w .noChild, e, number-some m s live-c))
     ]
 
     -- the child's parent isn't one of them
@@ -100,7 +110,7 @@ module _ (m : List ℕ) (s : Sound m) where
     not-caller w = go w refl
       where
         level-of : {u : ℕ} → Below m t u → level m d < level m u
-        level-of self = let y = s .descriptors t pt .ofOther nt .below in omega (arith, y, ap (level m) up-t)
+        level-of self = omega (arith, kid .below)
         level-of (under u p h v) = omega (arith, level-of v, s .descriptors u p .ofOther h .below)
 
         go : {u : ℕ} → Below m t u → u ≡ d → ⊥

@@ -56,10 +56,10 @@ module _ (m : List ℕ) (s : Sound m) (d c : ℕ) (p : Partition m d) (stands : 
       let n = blockAt m d (4 * u) in
       let (a, b) = of-child? n .0 e in
       let r = has-range m d n (field-has m d n 3 a) in
-      byte-below m s d c t p (kid .listed) (kid .notRoot) (kid .parentWord) (kid .numberWord) stands u n v (found m s d (4 * u) p (omega (arith, r .0))) b
+      byte-below m s d c p stands u n v (found m s d (4 * u) p (omega (arith, r .0))) b
 
   going : (u : ℕ) → Below m t u → goesWith m d c u ≡ true
-  going u w = go (below-byte m s d c t p (kid .listed) (kid .notRoot) (kid .parentWord) (kid .numberWord) stands w)
+  going u w = go (below-byte m s d c p stands w)
     where
       go : HasByte m d c (4 * u) ⊎ ((n : ℕ) × LentByte m d c n (4 * u)) → goesWith m d c u ≡ true
       go (inl b) =
@@ -80,7 +80,7 @@ module _ (m : List ℕ) (s : Sound m) (d c : ℕ) (p : Partition m d) (stands : 
   below-gs u v w = keep-in (goesWith m d c) u (partitions m) .1 (in-list m s u v, going u w)
 
   d-stays : ¬ (Below m t d)
-  d-stays = not-caller m s d c t p (kid .listed) (kid .notRoot) (kid .parentWord) (kid .numberWord) stands
+  d-stays = not-caller m s d c p stands
 
   root-stays : ¬ (Below m t (root m))
   root-stays w = go w refl
