@@ -11,7 +11,8 @@ use Rattle.block_memory.specs.Sound.{Sound, Table, Entries, Structures, Slot}
 use Rattle.block_soundness.proofs.Ranges.{Permitted, permitted-now}
 use Rattle.block_soundness.proofs.Records.{layout}
 use Rattle.block_rules.proofs.Frame.{Placed, Frame, to, back, structure-stays}
-use Rattle.block_rules.proofs.Ground.{root-now, header-on, parent-on, number-on}
+use Rattle.block_rules.proofs.Stays.{parent-on, number-on}
+use Rattle.block_rules.proofs.Ground.{root-now, header-on}
 use Rattle.block_rules.proofs.Grown.{KernelStays, Grown, words8, descriptor, structure-kept, root-structure}
 
 pub placed : (m : List ℕ) → Sound m → Placed m
@@ -31,10 +32,10 @@ module _ (m m' : List ℕ) (s : Sound m) (f : Frame m m') where
   }
 
   pub parent-same : (d : ℕ) → Partition m d → parent m' d ≡ parent m d
-  parent-same d p = parent-on m m' s (f .size) d (words8 m m' s grown d p)
+  parent-same d p = parent-on m m' d (words8 m m' s grown d p)
 
   pub number-same : (d : ℕ) → Partition m d → number m' d ≡ number m d
-  number-same d p = number-on m m' s (f .size) d (words8 m m' s grown d p)
+  number-same d p = number-on m m' d (words8 m m' s grown d p)
 
   rt : root m' ≡ root m
   rt = root-now m m' s (f .size)

@@ -9,7 +9,7 @@ use Rattle.block_memory.specs.Partition.{Partition, entry, Has, field}
 use Rattle.block_rules.specs.Effects.{disable, freeSlot}
 use Rattle.block_rules.proofs.Frame.{Placed}
 use Rattle.block_rules.proofs.Trail.{Trail, Wrote, wrote, Off, off}
-use Rattle.block_rules.proofs.Keep.{Same}
+use Rattle.block_rules.proofs.Stays.{Same}
 
 -- in w slot n of d is free and not enabled; every other field is as in m₁
 pub record Freed (m m₁ w : List ℕ) (d n : ℕ) : Type 0 where

@@ -12,8 +12,8 @@ use Rattle.block_memory.specs.Bytes.{Live}
 use Rattle.block_memory.specs.Sound.{Sound, Descriptor, Structure, RootStructure}
 use Rattle.block_soundness.proofs.Blocks.{used-as, block}
 use Rattle.block_soundness.proofs.Records.{structure-of}
-use Rattle.block_rules.proofs.Keep.{Same, FirstStays}
-use Rattle.block_rules.proofs.Ground.{Words8, Words2, descriptor-on, Held, structure-on, root-structure-on, Named}
+use Rattle.block_rules.proofs.Stays.{Same, FirstStays, Words8, Words2, Held, Named}
+use Rattle.block_rules.proofs.Ground.{descriptor-on, structure-on, root-structure-on}
 
 -- blocks with use 3 or 4 keep their words 0 to 6
 abbrev pub KernelStays : List ℕ → List ℕ → Type 0
@@ -27,10 +27,10 @@ pub record Grown (m m' : List ℕ) : Type 0 where
   pub two : (d k i : ℕ) → Partition m d → structure m d k ≢ 0 → i < 2 → word m' (structure m d k + i) ≡ word m (structure m d k + i)
 
 module _ (m m' : List ℕ) (s : Sound m) (f : Grown m m') where
-  pub words8 : (d : ℕ) → Partition m d → Words8 m m' s (f .size) d
+  pub words8 : (d : ℕ) → Partition m d → Words8 m m' d
   words8 d p i h = f .words d i p h
 
-  words2 : (d k : ℕ) → Partition m d → structure m d k ≢ 0 → Words2 m m' s (f .size) (structure m d k)
+  words2 : (d k : ℕ) → Partition m d → structure m d k ≢ 0 → Words2 m m' (structure m d k)
   words2 d k p z i h = f .two d k i p z h
 
   module _ (kernel : KernelStays m m') where
@@ -45,7 +45,7 @@ module _ (m m' : List ℕ) (s : Sound m) (f : Grown m m') where
       uses = kernel-use _ _ 3 (h .parentListed) (h .stands) (omega arith);
     })
 
-    held : (h n : ℕ) → Partition m h → used m h n ≡ 4 → Held m m' s (f .size) h n
+    held : (h n : ℕ) → Partition m h → used m h n ≡ 4 → Held m m' h n
     held h n p e = (kernel-use h n 3 p e (omega arith), kernel-use h n 4 p e (omega arith), kernel-use h n 5 p e (omega arith))
 
     pub structure-kept : (d k : ℕ) → Partition m d → structure m d k ≢ 0 → ¬ ((d ≡ root m) × (k ≡ 1)) → Structure m' d k (structure m' d k)
@@ -64,12 +64,12 @@ module _ (m m' : List ℕ) (s : Sound m) (f : Grown m m') where
         root-structure-on m m' s (f .size) (f .structures (root m) 1 r z) (words2 (root m) 1 r z) b8 p8
 
     -- what a block of use 2, 3 or 4 names, but for the first piece
-    pub names : (d n : ℕ) → Live m d n → FirstStays m m' d n → Named m m' s (f .size) d n
+    pub names : (d n : ℕ) → Live m d n → FirstStays m m' d n → Named m m' d n
     names d n l first = record {
       kid = λ u. (kernel-use d _ 0 (l .partition) u (omega arith), kernel-use d _ 3 (l .partition) u (omega arith));
       first = first;
       desc = λ u. let h = block m s l .uses .use3 u .listed in (f .to h, words8 (place m d n) h);
       struct = λ u.
           let (p, z) = structure-of m s d n l u in
-          (f .structures _ _ p z, subst (Words2 m m' s (f .size)) (block m s l .uses .use4 u .there) (words2 _ _ p z));
+          (f .structures _ _ p z, subst (Words2 m m') (block m s l .uses .use4 u .there) (words2 _ _ p z));
     }

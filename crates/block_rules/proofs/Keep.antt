@@ -3,7 +3,7 @@ use mathlib.Core.Path.{_≡_, refl, sym, ap, ap₂, _∙_, subst}
 use mathlib.Core.List.{List}
 use mathlib.Core.Bool.{cond}
 use mathlib.Core.Logic.{_≢_}
-use Prim.Native.Nat.{ℕ, _+_, _*_, _/_, _≤_, _<_}
+use Prim.Native.Nat.{ℕ, _+_, _*_, _/_, _<_}
 use native.Mathlib.Omega.{arith}
 use native.Mathlib.Decide.{ℕ-discrete}
 use lib.Bits.{bitAnd}
@@ -12,9 +12,10 @@ use lib.ListN.{length}
 use borrow.Author.Tests.{eq-eqb, ne-eqb}
 use Rattle.block_memory.specs.Geometry.{wordFrom, firstByte}
 use Rattle.block_memory.specs.Words.{word}
-use Rattle.block_memory.specs.Partition.{root, Partition, parent, number, structure, field, start, end, rights, used, child, link, source, previous, next}
+use Rattle.block_memory.specs.Partition.{root, Partition, parent, number, structure, field, start, end, rights, used, child, source, previous, next}
 use Rattle.block_memory.specs.Partition.{place, named}
 use Rattle.block_memory.specs.Sound.{Form, Use, Source, Next, Pieces, Block, Slot, sourceStart, sourceEnd, sourceLink}
+use Rattle.block_rules.proofs.Stays.{Same, Was, parent-on, number-on, word0-on, Named}
 
 -- block b of d, or another
 pub this-or : (P : ℕ → ℕ → Type 0) (d b u o : ℕ) → P d b → (¬ ((u ≡ d) × (o ≡ b)) → P u o) → P u o
@@ -43,26 +44,9 @@ pub wiped-slot : {m : List ℕ} {d n : ℕ} → ((g : ℕ) → g < 9 → field m
 wiped-slot w = record { free = λ z. w; taken = λ z. absurd (z (w 3 (omega arith))) }
 
 module _ (m m' : List ℕ) where
-  -- word g of block n of d stays
-  abbrev pub Same : ℕ → ℕ → ℕ → Type 0
-  Same d n g = field m' d n g ≡ field m d n g
-
-  -- what sentence 7 looks at of a lent block's first piece, and sentence 9 of the pieces before and after a block
-  abbrev pub FirstStays : ℕ → ℕ → Type 0
-  FirstStays d n = used m d n ≡ 2 → Same (place m d (child m d n)) (link m d n) 6 × Same (place m d (child m d n)) (link m d n) 7
-
-  abbrev pub PriorStays : ℕ → ℕ → Type 0
-  PriorStays d n = previous m d n ≢ 0 → Same d (previous m d n) 8
-
-  abbrev pub LaterStays : ℕ → ℕ → Type 0
-  LaterStays d n = next m d n ≢ 0 → Same d (next m d n) 0 × Same d (next m d n) 2 × Same d (next m d n) 6 × Same d (next m d n) 7
-
-  pub later-from : (d n : ℕ) → (next m d n ≢ 0 → (g : ℕ) → (g < 8) × (g ≢ 1) × ¬ ((3 ≤ g) × (g < 6)) → Same d (next m d n) g) → LaterStays d n
-  later-from d n same z = (same z 0 (omega arith), same z 2 (omega arith), same z 6 (omega arith), same z 7 (omega arith))
-
   -- ---- sentence 6
 
-  pub form-kept : {d n : ℕ} → length m' ≡ length m → Same d n 0 → Same d n 1 → Same d n 2 → Same d n 3 → Form m d n → Form m' d n
+  pub form-kept : {d n : ℕ} → length m' ≡ length m → Same m m' d n 0 → Same m m' d n 1 → Same m m' d n 2 → Same m m' d n 3 → Form m d n → Form m' d n
   form-kept z a b c e f = record {
     long = omega (arith, f .long);
     inside = omega (arith, f .inside);
@@ -72,87 +56,68 @@ module _ (m m' : List ℕ) where
 
   -- ---- sentence 7
 
-  pub record UseKept (d n : ℕ) : Type 0 where
-    pub starts : Same d n 0
-    pub ends : used m d n ≢ 1 → Same d n 1
-    pub uses : Same d n 3
-    pub childs : Same d n 4
-    pub links : Same d n 5
-    -- the child that it names
-    pub kid : used m d (child m d n) ≡ 3 → Same d (child m d n) 0 × Same d (child m d n) 3
-    pub first : FirstStays d n
-    -- the descriptor or the structure that stands in it
-    pub desc : used m d n ≡ 3
-        → Partition m' (place m d n) × (parent m' (place m d n) ≡ parent m (place m d n)) × (number m' (place m d n) ≡ number m (place m d n))
-    pub struct : used m d n ≡ 4
-        → (structure m' (named m d (child m d n)) (link m d n) ≡ structure m (named m d (child m d n)) (link m d n))
-        × (word m' (place m d n) ≡ word m (place m d n)) × (word m' (place m d n + 1) ≡ word m (place m d n + 1))
-
-  pub named-same : (d c : ℕ) → (c ≢ 0 → Same d c 0) → named m' d c ≡ named m d c
+  pub named-same : (d c : ℕ) → (c ≢ 0 → Same m m' d c 0) → named m' d c ≡ named m d c
   named-same d c h = elim (ℕ-discrete c 0) [
     | yes z ↦ rw (eq-eqb c 0 z)
     | no z ↦ rw (ne-eqb c 0 z) (ap wordFrom (h z))
   ]
 
-  pub use-kept : {d n : ℕ} → UseKept d n → Use m d n → Use m' d n
-  use-kept {d} {n} k u =
-      let at : place m' d n ≡ place m d n = ap wordFrom (k .starts) in
+  pub use-kept : {d n : ℕ} → ((g : ℕ) → g < 6 → Same m m' d n g) → Named m m' d n → Use m d n → Use m' d n
+  use-kept {d} {n} same k u =
+      let at : place m' d n ≡ place m d n = ap wordFrom (same 0 (omega arith)) in
+      let uses = same 3 (omega arith) in
+      let childs = same 4 (omega arith) in
+      let links = same 5 (omega arith) in
       record {
-        use1 = λ e. let h = u .use1 (sym (k .uses) ∙ e) in record { noChild = k .childs ∙ h .noChild; noLink = k .links ∙ h .noLink };
+        use1 = λ e. let h = u .use1 (sym uses ∙ e) in record { noChild = childs ∙ h .noChild; noLink = links ∙ h .noLink };
         use2 = λ e.
-            let e' = sym (k .uses) ∙ e in
+            let e' = sym uses ∙ e in
             let h = u .use2 e' in
             let (a, b) = k .kid (h .toChild) in
             let (x, y) = k .first e' in
-            let t : place m' d (child m' d n) ≡ place m d (child m d n) = ap (λ (c : ℕ). place m' d c) (k .childs) ∙ ap wordFrom a in
+            let t : place m' d (child m' d n) ≡ place m d (child m d n) = ap (λ (c : ℕ). place m' d c) childs ∙ ap wordFrom a in
             record {
-              toChild = ap (λ (c : ℕ). used m' d c) (k .childs) ∙ b ∙ h .toChild;
-              fromThis = ap₂ (λ (p q : ℕ). source m' p q) t (k .links) ∙ x ∙ h .fromThis;
-              first = ap₂ (λ (p q : ℕ). previous m' p q) t (k .links) ∙ y ∙ h .first;
+              toChild = ap (λ (c : ℕ). used m' d c) childs ∙ b ∙ h .toChild;
+              fromThis = ap₂ (λ (p q : ℕ). source m' p q) t links ∙ x ∙ h .fromThis;
+              first = ap₂ (λ (p q : ℕ). previous m' p q) t links ∙ y ∙ h .first;
             };
         use3 = λ e.
-            let e' = sym (k .uses) ∙ e in
+            let e' = sym uses ∙ e in
             let h = u .use3 e' in
-            let (a, b, c) = k .desc e' in
-            let en = k .ends (λ z. omega (arith, z, e')) in
+            let (a, w) = k .desc e' in
             record {
-              noChild = k .childs ∙ h .noChild;
-              noLink = k .links ∙ h .noLink;
-              room = omega (arith, h .room, at, en);
+              noChild = childs ∙ h .noChild;
+              noLink = links ∙ h .noLink;
+              room = omega (arith, h .room, at, same 1 (omega arith));
               listed = subst (Partition m') (sym at) a;
-              parentWord = ap (parent m') at ∙ b ∙ h .parentWord;
-              numberWord = ap (number m') at ∙ c ∙ h .numberWord;
+              parentWord = ap (parent m') at ∙ parent-on m m' _ w ∙ h .parentWord;
+              numberWord = ap (number m') at ∙ number-on m m' _ w ∙ h .numberWord;
             };
         use4 = λ e.
-            let e' = sym (k .uses) ∙ e in
+            let e' = sym uses ∙ e in
             let h = u .use4 e' in
-            let (a, b, c) = k .struct e' in
-            let en = k .ends (λ z. omega (arith, z, e')) in
+            let (a, two) = k .struct e' in
             let w : named m' d (child m' d n) ≡ named m d (child m d n) =
-            ap (named m' d) (k .childs) ∙ named-same d (child m d n) (λ z. k .kid (h .whose z) .0) in
+            ap (named m' d) childs ∙ named-same d (child m d n) (λ z. k .kid (h .whose z) .0) in
             record {
               whose = λ z.
-                  let u : used m d (child m d n) ≡ 3 = h .whose (λ y. z (k .childs ∙ y)) in
-                  ap (λ (x : ℕ). used m' d x) (k .childs) ∙ k .kid u .1 ∙ u;
-              room = omega (arith, h .room, at, en);
-              there = ap₂ (λ (p q : ℕ). structure m' p q) w (k .links) ∙ a ∙ h .there ∙ sym at;
-              numberWord = ap (word m') at ∙ b ∙ h .numberWord;
-              ownWord = ap (λ (i : ℕ). word m' (i + 1)) at ∙ c ∙ h .ownWord ∙ sym (ap (λ (x : ℕ). cond (eqb x 0) 1 0) (k .childs));
+                  let u : used m d (child m d n) ≡ 3 = h .whose (λ y. z (childs ∙ y)) in
+                  ap (λ (x : ℕ). used m' d x) childs ∙ k .kid u .1 ∙ u;
+              room = omega (arith, h .room, at, same 1 (omega arith));
+              there = ap₂ (λ (p q : ℕ). structure m' p q) w links ∙ a ∙ h .there ∙ sym at;
+              numberWord = ap (word m') at ∙ word0-on m m' _ two ∙ h .numberWord;
+              ownWord = ap (λ (i : ℕ). word m' (i + 1)) at ∙ two 1 (omega arith) ∙ h .ownWord ∙ sym (ap (λ (x : ℕ). cond (eqb x 0) 1 0) childs);
             };
       }
 
   -- ---- sentences 8 and 9, for block o in place of block n
 
-  -- word g of block o is what word g of block n was
-  abbrev pub Was : ℕ → ℕ → ℕ → ℕ → Type 0
-  Was d o n g = field m' d o g ≡ field m d n g
-
   root-is : length m' ≡ length m → root m' ≡ root m
   root-is e = ap (λ (w : ℕ). 8 + w / 32) e
 
-  module _ (d o n : ℕ) (size : length m' ≡ length m) (sources : Was d o n 6) (parents : parent m' d ≡ parent m d) where
-    pub source-from : number m' d ≡ number m d → Was d o n 2
-        → (d ≢ root m → Same (parent m d) (source m d n) 2 × Same (parent m d) (source m d n) 3 × Same (parent m d) (source m d n) 4)
+  module _ (d o n : ℕ) (size : length m' ≡ length m) (sources : Was m m' d o n 6) (parents : parent m' d ≡ parent m d) where
+    pub source-from : number m' d ≡ number m d → Was m m' d o n 2
+        → (d ≢ root m → Same m m' (parent m d) (source m d n) 2 × Same m m' (parent m d) (source m d n) 3 × Same m m' (parent m d) (source m d n) 4)
         → Source m d n → Source m' d o
     source-from numbers right lent s = record {
       ofRoot = λ e.
@@ -173,7 +138,7 @@ module _ (m m' : List ℕ) where
           };
     }
 
-    at-source : (g a b : ℕ) → a ≡ b → (d ≢ root m → Same (parent m d) (source m d n) g)
+    at-source : (g a b : ℕ) → a ≡ b → (d ≢ root m → Same m m' (parent m d) (source m d n) g)
         → cond (eqb d (root m')) a (field m' (parent m' d) (source m' d o) g) ≡ cond (eqb d (root m)) b (field m (parent m d) (source m d n) g)
     at-source g a b e h = rw (root-is size) (elim (ℕ-discrete d (root m)) [
       | yes z ↦ rw (eq-eqb d (root m) z) e
@@ -181,8 +146,8 @@ module _ (m m' : List ℕ) where
     ])
 
     -- previous, and what it asks
-    pub front-from : Was d o n 0 → Was d o n 7 → o ≡ n
-        → (d ≢ root m → Same (parent m d) (source m d n) 0 × Same (parent m d) (source m d n) 5)
+    pub front-from : Was m m' d o n 0 → Was m m' d o n 7 → o ≡ n
+        → (d ≢ root m → Same m m' (parent m d) (source m d n) 0 × Same m m' (parent m d) (source m d n) 5)
         → (previous m d n ≢ 0 → next m' d (previous m d n) ≡ o) → Pieces m d n → Front m' d o
     front-from starts before is lent prior p = (
       (λ e.
@@ -194,9 +159,9 @@ module _ (m m' : List ℕ) where
     )
 
     -- next, and what it asks
-    pub back-from : Was d o n 1 → Was d o n 2 → Was d o n 8
-        → (d ≢ root m → Same (parent m d) (source m d n) 1)
-        → (next m d n ≢ 0 → (previous m' d (next m d n) ≡ o) × Same d (next m d n) 0 × Same d (next m d n) 2 × Same d (next m d n) 6)
+    pub back-from : Was m m' d o n 1 → Was m m' d o n 2 → Was m m' d o n 8
+        → (d ≢ root m → Same m m' (parent m d) (source m d n) 1)
+        → (next m d n ≢ 0 → (previous m' d (next m d n) ≡ o) × Same m m' d (next m d n) 0 × Same m m' d (next m d n) 2 × Same m m' d (next m d n) 6)
         → Pieces m d n → Back m' d o
     back-from ends right behind lent later p = (
       (λ e. ends ∙ p .last (sym behind ∙ e) ∙ sym (at-source 1 _ _ (ap (λ (w : ℕ). 4 * w) size) lent)),

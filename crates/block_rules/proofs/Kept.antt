@@ -13,19 +13,20 @@ use Rattle.block_soundness.proofs.Child.{lends}
 use Rattle.block_rules.proofs.Frame.{Frame}
 use Rattle.block_rules.proofs.EntryWrite.{SameFields}
 use Rattle.block_rules.proofs.Disabled.{FewerEntries}
-use Rattle.block_rules.proofs.Keep.{Front, Back, Same, FirstStays, LaterStays, Was}
-use Rattle.block_rules.proofs.Ground.{Words8, Named, SourceStays, Beside, beside-on, source-on, front-on, back-on, slot-behind, still-on}
+use Rattle.block_rules.proofs.Stays.{Same, SameAll, FirstStays, LaterStays, Was, Words8, Named, SourceStays, Beside}
+use Rattle.block_rules.proofs.Keep.{Front, Back}
+use Rattle.block_rules.proofs.SlotStays.{beside-on, source-on, front-on, back-on, slot-behind, still-on}
 use Rattle.block_rules.proofs.Grown.{KernelStays, words8, names}
 use Rattle.block_rules.proofs.Framed.{grown, framed}
 
 module _ (m m' : List ℕ) (s : Sound m) (f : Frame m m') (kernel : KernelStays m m') where
-  eight : {d n : ℕ} → Live m d n → Words8 m m' s (f .size) d
+  eight : {d n : ℕ} → Live m d n → Words8 m m' d
   eight {d} l = words8 m m' s (grown m m' s f) d (l .partition)
 
-  names-stay : {d n : ℕ} → Live m d n → FirstStays m m' d n → Named m m' s (f .size) d n
+  names-stay : {d n : ℕ} → Live m d n → FirstStays m m' d n → Named m m' d n
   names-stay {d} {n} l first = names m m' s (grown m m' s f) kernel d n l first
 
-  module _ {d n : ℕ} (l : Live m d n) (o : ℕ) (sources : Was m m' d o n 6) (lent : SourceStays m m' s (f .size) d n) where
+  module _ {d n : ℕ} (l : Live m d n) (o : ℕ) (sources : Was m m' d o n 6) (lent : SourceStays m m' d n) where
     pub source-stays : Was m m' d o n 2 → Source m' d o
     source-stays = source-on m m' s (f .size) l (eight l) o sources lent
 
@@ -38,14 +39,14 @@ module _ (m m' : List ℕ) (s : Sound m) (f : Frame m m') (kernel : KernelStays 
     back-stays = back-on m m' s (f .size) l (eight l) o sources lent
 
   -- a slot whose words all stay
-  pub unwritten-stays : (d n : ℕ) → Partition m d → Has m d n → ((g : ℕ) → g < 9 → Same m m' d n g)
-      → ((l : Live m d n) → FirstStays m m' d n × SourceStays m m' s (f .size) d n × Beside m m' s (f .size) l) → Slot m' d n
+  pub unwritten-stays : (d n : ℕ) → Partition m d → Has m d n → SameAll m m' d n
+      → ((l : Live m d n) → FirstStays m m' d n × SourceStays m m' d n × Beside m m' d n) → Slot m' d n
   unwritten-stays d n p h same by = still-on m m' s (f .size) d n p h (words8 m m' s (grown m m' s f) d p) same (λ l.
       let (first, lent, beside) = by l in
       (names-stay l first, lent, beside))
 
   -- a block whose own words stay, but maybe for previous
-  pub behind-stays : {d n : ℕ} → Live m d n → ((g : ℕ) → g < 9 → g ≢ 7 → Same m m' d n g) → FirstStays m m' d n → SourceStays m m' s (f .size) d n
+  pub behind-stays : {d n : ℕ} → Live m d n → ((g : ℕ) → g < 9 → g ≢ 7 → Same m m' d n g) → FirstStays m m' d n → SourceStays m m' d n
       → Front m' d n → LaterStays m m' d n → Slot m' d n
   behind-stays l same first lent front later = slot-behind m m' s (f .size) l (eight l) same (names-stay l first) lent front later
 
@@ -73,7 +74,7 @@ module _ (m m' : List ℕ) (s : Sound m) (f : Frame m m') (same : SameFields m m
   slots d n p h = unwritten-stays m m' s f all-stay d n p h (λ g i. same d n g p i) (λ l. (
     (λ e. let t = lent-child m s d n l e in (same _ _ 6 t (omega arith), same _ _ 7 t (omega arith))),
     (λ e g i. same _ _ g (up m s l e .alive .partition) (omega arith)),
-    beside-on m m' s (f .size) l (λ o g b i a. same d o g p i),
+    beside-on m m' s (f .size) l (λ o b g i a. same d o g p i),
   ))
 
   pub fields-stay : Partition m (current m') → ((d : ℕ) → Partition m d → Entries m' d) → Sound m'

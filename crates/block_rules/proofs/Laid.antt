@@ -22,7 +22,7 @@ use Rattle.block_rules.specs.Effects.{takeAs}
 use Rattle.block_rules.proofs.Frame.{Placed, structure-stays}
 use Rattle.block_rules.proofs.Disabled.{FewerEntries}
 use Rattle.block_rules.proofs.Trail.{Trail, trail}
-use Rattle.block_rules.proofs.Keep.{Same}
+use Rattle.block_rules.proofs.Stays.{Same}
 use Rattle.block_rules.proofs.Grown.{Grown}
 use Rattle.block_rules.proofs.Framed.{placed}
 use Rattle.block_rules.proofs.Taken.{Taken, take}

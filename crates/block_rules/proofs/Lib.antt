@@ -8,9 +8,11 @@ pub mod CurrentWrite
 pub mod Disabled
 pub mod Trail
 -- ---- what keeps a sentence of soundness
+pub mod Stays
 pub mod Keep
 pub mod Uses
 pub mod Ground
+pub mod SlotStays
 pub mod Grown
 pub mod Frame
 pub mod Framed

@@ -14,9 +14,9 @@ use Rattle.block_soundness.proofs.Up.{up}
 use Rattle.block_rules.proofs.Frame.{Frame}
 use Rattle.block_rules.proofs.Chain.{Chain}
 use Rattle.block_rules.proofs.Trail.{Trail}
-use Rattle.block_rules.proofs.Keep.{this-or, Back, pieces-of, block-slot, Same, FirstStays, PriorStays, LaterStays, later-from, Was}
+use Rattle.block_rules.proofs.Stays.{Same, SameAll, FirstStays, PriorStays, LaterStays, later-from, Was, SourceStays}
+use Rattle.block_rules.proofs.Keep.{this-or, Back, pieces-of, block-slot}
 use Rattle.block_rules.proofs.Uses.{in-hand}
-use Rattle.block_rules.proofs.Ground.{SourceStays}
 use Rattle.block_rules.proofs.Grown.{KernelStays}
 use Rattle.block_rules.proofs.Framed.{framed}
 use Rattle.block_rules.proofs.Kept.{source-stays, front-stays, back-stays, behind-stays, unwritten-stays, first-piece, entries-kept}
@@ -78,7 +78,7 @@ module _ {m m' : List ℕ} {s : Sound m} {d l h a b : ℕ} (c : Chain m s d l h 
   kernel : KernelStays m m'
   kernel t o g x u i = not-in-hand x (λ z. omega (arith, z)) g i
 
-  lent : {t o : ℕ} → Live m t o → SourceStays m m' s (frame .size) t o
+  lent : {t o : ℕ} → Live m t o → SourceStays m m' t o
   lent x e g i = let u = up m s x e in not-in-hand (u .alive) (λ w. omega (arith, w, u .lent)) g (omega arith)
 
   -- of a block that comes neither after l nor after the last, all but end and next
@@ -156,7 +156,7 @@ module _ {m m' : List ℕ} {s : Sound m} {d l h a b : ℕ} (c : Chain m s d l h 
 
   other-slot : (t o : ℕ) → Partition m t → Has m t o → ¬ ((t ≡ d) × (o ≡ h)) → ¬ ((t ≡ d) × (o ≡ l)) → ¬ ((t ≡ d) × (o ≡ nx)) → Slot m' t o
   other-slot t o v i ah al ax =
-      let k : (g : ℕ) → g < 9 → Same m m' t o g = λ g j.
+      let k : SameAll m m' t o = λ g j.
       r .others t o g v j ah (λ (y, z, w). al (y, z)) (λ (y, z, w). al (y, z)) (λ (y, z, w). ax (y, z)) in
       unwritten-stays m m' s frame kernel t o v i k (λ x. (first x, lent x, record { prior = prior x ah ax; later = later x ah al }))
 

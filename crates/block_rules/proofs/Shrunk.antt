@@ -18,9 +18,9 @@ use Rattle.block_soundness.proofs.Blocks.{used-as, block, field-has, first-in-r
 use Rattle.block_soundness.proofs.Levels.{same-word}
 use Rattle.block_soundness.proofs.Records.{Record, desc, struct, structure-of}
 use Rattle.block_soundness.proofs.Up.{up}
-use Rattle.block_rules.proofs.Keep.{Same}
-use Rattle.block_rules.proofs.Ground.{root-now, header-on, Words8, Words2, descriptor-on, Held, structure-on, root-structure-on}
-use Rattle.block_rules.proofs.Ground.{Named, SourceStays, Beside, beside-on, slot-on, given-back, free-on}
+use Rattle.block_rules.proofs.Stays.{Same, SameAll, SameButUse, Words8, Words2, Held, Named, SourceStays, Beside}
+use Rattle.block_rules.proofs.Ground.{root-now, header-on, descriptor-on, structure-on, root-structure-on}
+use Rattle.block_rules.proofs.SlotStays.{beside-on, slot-on, given-back, free-on}
 use Rattle.block_rules.proofs.Kept.{first-piece, entries-kept}
 use Rattle.block_rules.proofs.Leaving.{backWords, Back, lent, holdsDescriptor, holdsStructure, Leaving, back-some, hand-here, desc-here, kid-back, back?}
 use Rattle.block_rules.proofs.Leaving.{parent-stays, own-block, source-block, structure-block}
@@ -54,7 +54,7 @@ module _ (m m' : List ℕ) (s : Sound m) (Gone : Record → Type 0) (l : Leaving
 
   -- ---- lookups afterwards, in what stays
 
-  words8 : (u : ℕ) → Partition m u → Stays u → Words8 m m' s size u
+  words8 : (u : ℕ) → Partition m u → Stays u → Words8 m m' u
   words8 u v h i j = f .inDescriptor u i v h (omega arith) (λ k a e. absurd (omega arith))
 
   structure-stays : (u k : ℕ) → Partition m u → Stays u → ¬ (Gone (struct u k)) → structure m' u k ≡ structure m u k
@@ -69,11 +69,11 @@ module _ (m m' : List ℕ) (s : Sound m) (Gone : Record → Type 0) (l : Leaving
   fields u o g v h a i c = field-same m m' u o g (structure-stays u (o / 8) v h a) (λ z.
       f .inStruct u (o / 8) (inStructure o g) v z a (omega arith) (λ n j x y b. c (subst (Back m Gone u) (omega arith) b, omega arith, omega arith)))
 
-  pub same : (u o g : ℕ) → Live m u o → Stays u → g < 9 → ¬ ((3 ≤ g) × (g < 6)) → Same m m' u o g
-  same u o g b h i a = fields u o g (b .partition) h (l .empty u o b h) i (λ (x, y, z). a (y, z))
+  pub same : (u o : ℕ) → Live m u o → Stays u → SameButUse m m' u o
+  same u o b h g i a = fields u o g (b .partition) h (l .empty u o b h) i (λ (x, y, z). a (y, z))
 
-  same-all : (u o g : ℕ) → Live m u o → Stays u → ¬ (Back m Gone u o) → g < 9 → Same m m' u o g
-  same-all u o g b h a i = fields u o g (b .partition) h (l .empty u o b h) i (λ (x, y, z). a x)
+  same-all : (u o : ℕ) → Live m u o → Stays u → ¬ (Back m Gone u o) → SameAll m m' u o
+  same-all u o b h a g i = fields u o g (b .partition) h (l .empty u o b h) i (λ (x, y, z). a x)
 
   pub given : (u o : ℕ) → Partition m u → Stays u → Back m Gone u o → (g : ℕ) → g < 3 → field m' u o (3 + g) ≡ getD backWords g 0
   given u o v h b g i =
@@ -84,7 +84,7 @@ module _ (m m' : List ℕ) (s : Sound m) (Gone : Record → Type 0) (l : Leaving
   alive : (u o : ℕ) → Live m u o → Stays u → used m' u o ≢ 0
   alive u o b h z = elim (back? m Gone s l u o b) [
     | yes y ↦ omega (arith, z, given u o (b .partition) h y 0 (omega arith))
-    | no y ↦ b .block (sym (same-all u o 3 b h y (omega arith)) ∙ z)
+    | no y ↦ b .block (sym (same-all u o b h y 3 (omega arith)) ∙ z)
   ]
 
   -- ---- partitions
@@ -118,19 +118,19 @@ module _ (m m' : List ℕ) (s : Sound m) (Gone : Record → Type 0) (l : Leaving
 
   -- ---- what a block names, its source, and the pieces beside it
 
-  words2 : (u k : ℕ) → Partition m u → structure m u k ≢ 0 → ¬ (Gone (struct u k)) → Words2 m m' s size (structure m u k)
+  words2 : (u k : ℕ) → Partition m u → structure m u k ≢ 0 → ¬ (Gone (struct u k)) → Words2 m m' (structure m u k)
   words2 u k v z a i b = f .inStruct u k i v z a (omega arith) (λ o c x y. absurd (omega arith))
 
-  names : (u o : ℕ) → Live m u o → Stays u → ¬ (Back m Gone u o) → Named m m' s size u o
+  names : (u o : ℕ) → Live m u o → Stays u → ¬ (Back m Gone u o) → Named m m' u o
   names u o b h a = record {
     kid = λ x.
         let k = used-as (b .partition) x in
         let c = desc-here m Gone u (child m u o) x (λ g. a (kid-back m Gone s l u o b (λ z. omega (arith, z, number-some m s k)) g)) in
-        (same-all u _ 0 k h c (omega arith), same-all u _ 3 k h c (omega arith));
+        (same-all u _ k h c 0 (omega arith), same-all u _ k h c 3 (omega arith));
     first = λ x.
         let k = first-piece m s u o b x in
         let c : Stays (place m u (child m u o)) = λ g. a (lent x g) in
-        (same _ _ 6 k c (omega arith) (omega arith), same _ _ 7 k c (omega arith) (omega arith));
+        (same _ _ k c 6 (omega arith) (omega arith), same _ _ k c 7 (omega arith) (omega arith));
     desc = λ x.
         let v = block m s b .uses .use3 x .listed in
         let c : Stays (place m u o) = λ g. a (holdsDescriptor x g) in
@@ -138,16 +138,16 @@ module _ (m m' : List ℕ) (s : Sound m) (Gone : Record → Type 0) (l : Leaving
     struct = λ x.
         let (v, z) = structure-of m s u o b x in
         let c : ¬ (Gone (struct (named m u (child m u o)) (link m u o))) = λ g. a (holdsStructure x g) in
-        (structure-stays _ _ v (λ g. c (l .whole _ _ g)) c, subst (Words2 m m' s size) (block m s b .uses .use4 x .there) (words2 _ _ v z c));
+        (structure-stays _ _ v (λ g. c (l .whole _ _ g)) c, subst (Words2 m m') (block m s b .uses .use4 x .there) (words2 _ _ v z c));
   }
 
-  sources : (u o : ℕ) → Live m u o → Stays u → SourceStays m m' s size u o
+  sources : (u o : ℕ) → Live m u o → Stays u → SourceStays m m' u o
   sources u o b h r g i =
       let v = b .partition in
-      same-all _ _ g (up m s b r .alive) (parent-stays m Gone s l u v h r) (source-block m Gone s l u v h o b r) (omega arith)
+      same-all _ _ (up m s b r .alive) (parent-stays m Gone s l u v h r) (source-block m Gone s l u v h o b r) g (omega arith)
 
-  beside : (u o : ℕ) (b : Live m u o) → Stays u → Beside m m' s size b
-  beside u o b h = beside-on m m' s size b (λ n g c. same u n g c h)
+  beside : (u o : ℕ) (b : Live m u o) → Stays u → Beside m m' u o
+  beside u o b h = beside-on m m' s size b (λ n c. same u n c h)
 
   -- ---- the sentences
 
@@ -159,9 +159,9 @@ module _ (m m' : List ℕ) (s : Sound m) (Gone : Record → Type 0) (l : Leaving
     | no z ↦
         let b : Live m u o = record { partition = v; block = z } in
         elim (back? m Gone s l u o b) [
-          | yes x ↦ given-back m m' s size b (words8 u v h) (λ g j y. same u o g b h j y)
+          | yes x ↦ given-back m m' s size b (words8 u v h) (same u o b h)
               (given u o v h x 0 (omega arith)) (given u o v h x 1 (omega arith)) (given u o v h x 2 (omega arith)) (sources u o b h) (beside u o b h)
-          | no x ↦ slot-on m m' s size b (words8 u v h) (λ g j. same-all u o g b h x j) (names u o b h x) (sources u o b h) (beside u o b h)
+          | no x ↦ slot-on m m' s size b (words8 u v h) (same-all u o b h x) (names u o b h x) (sources u o b h) (beside u o b h)
         ]
   ]
 
@@ -171,9 +171,9 @@ module _ (m m' : List ℕ) (s : Sound m) (Gone : Record → Type 0) (l : Leaving
   kept : (u k : ℕ) → Partition m u → Stays u → structure m u k ≢ 0 → ¬ (Gone (struct u k)) → ¬ ((u ≡ root m) × (k ≡ 1)) → Structure m' u k (structure m u k)
   kept u k v h z a g =
       let o = s .structures u v .others k z g in
-      let held : (e : ℕ) → holder m u (structure m u k) ≡ e → Stays e → Held m m' s size e (word m (structure m u k)) = λ e c y.
+      let held : (e : ℕ) → holder m u (structure m u k) ≡ e → Stays e → Held m m' e (word m (structure m u k)) = λ e c y.
       let (b, i) = structure-block m Gone s l u v h k e z g a c in
-      (same-all e _ 3 b y i (omega arith), same-all e _ 4 b y i (omega arith), same-all e _ 5 b y i (omega arith)) in
+      (same-all e _ b y i 3 (omega arith), same-all e _ b y i 4 (omega arith), same-all e _ b y i 5 (omega arith)) in
       structure-on m m' s size u k (structure m u k) o (words8 u v h) (words2 u k v z a)
       (λ e. held u (ap (λ (b : Bool). cond b u (parent m u)) (eq-eqb _ _ e)) h)
       (λ e. held (parent m u) (ap (λ (b : Bool). cond b u (parent m u)) (ne-eqb _ _ e)) (parent-stays m Gone s l u v h (λ r. e (o .ofRoot r))))
@@ -187,7 +187,7 @@ module _ (m m' : List ℕ) (s : Sound m) (Gone : Record → Type 0) (l : Leaving
       let z : structure m (root m) 1 ≢ 0 = λ w. omega (arith, w, x .at) in
       record {
         ofRoot = λ e. root-structure-on m m' s size (structure-stays (root m) 1 r (l .rootStays) a) (words2 (root m) 1 r z a)
-            (alive (root m) 8 b (l .rootStays)) (same (root m) 8 7 b (l .rootStays) (omega arith) (omega arith) ∙ x .first);
+            (alive (root m) 8 b (l .rootStays)) (same (root m) 8 b (l .rootStays) 7 (omega arith) (omega arith) ∙ x .first);
         others = λ k w g.
             let c = structure-here u k v h w in
             let e = structure-stays u k v h c in
@@ -197,7 +197,7 @@ module _ (m m' : List ℕ) (s : Sound m) (Gone : Record → Type 0) (l : Leaving
   entries : (u : ℕ) → Partition m u → Stays u → Entries m' u
   entries u v h = entries-kept m m' s u v
       (λ e z. entry-same m m' u e (λ x y. f .inDescriptor u (7 + e) v h (omega arith) (λ k a i. absurd (omega arith))))
-      (λ o x e y. same-all u o 3 (used-as v x) h (hand-here m Gone u o x) (omega arith) ∙ x)
+      (λ o x e y. same-all u o (used-as v x) h (hand-here m Gone u o x) 3 (omega arith) ∙ x)
 
   low-word : (j : ℕ) → j < 8 → word m' j ≡ word m j
   low-word j i = f .low j (omega arith) (λ u v g. omega arith)
@@ -214,7 +214,7 @@ module _ (m m' : List ℕ) (s : Sound m) (Gone : Record → Type 0) (l : Leaving
         let x = s .descriptors u v .ofOther r .parentListed in
         let k = parent-stays m Gone s l u v h r in
         let (b, c) = own-block m Gone s l u v h r in
-        record { listed = to x k; words = words8 _ x k; starts = same-all _ _ 0 b k c (omega arith); uses = same-all _ _ 3 b k c (omega arith) });
+        record { listed = to x k; words = words8 _ x k; starts = same-all _ _ b k c 0 (omega arith); uses = same-all _ _ b k c 3 (omega arith) });
     entries = λ u w. let (v, h) = back w in entries u v h;
     structures = λ u w. let (v, h) = back w in structures u v h;
     slots = λ u o w i. let (v, h) = back w in slots u o v h i;

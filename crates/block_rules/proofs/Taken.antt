@@ -9,7 +9,7 @@ use Rattle.block_memory.specs.Partition.{Partition, entry, Has, field}
 use Rattle.block_rules.specs.Effects.{disable, takeAs}
 use Rattle.block_rules.proofs.Frame.{Placed}
 use Rattle.block_rules.proofs.Trail.{Trail, Wrote, wrote, Off, off}
-use Rattle.block_rules.proofs.Keep.{Same}
+use Rattle.block_rules.proofs.Stays.{Same}
 
 -- in w block b of d has the words `three` from word 3 on and isn't enabled; every other field is as in m₁
 pub record Taken (m m₁ w : List ℕ) (d b : ℕ) (three : List ℕ) : Type 0 where

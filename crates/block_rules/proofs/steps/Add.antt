@@ -17,7 +17,8 @@ use Rattle.block_soundness.proofs.Sources.{source-start, source-end, source-lin
 use Rattle.block_rules.specs.Effects.{takeAs, addTo}
 use Rattle.block_rules.proofs.Frame.{Placed, Frame, root-same}
 use Rattle.block_rules.proofs.Trail.{trail, Wrote, wrote}
-use Rattle.block_rules.proofs.Keep.{this-or, block-slot, Same}
+use Rattle.block_rules.proofs.Stays.{Same, SameButUse}
+use Rattle.block_rules.proofs.Keep.{this-or, block-slot}
 use Rattle.block_rules.proofs.Grown.{KernelStays}
 use Rattle.block_rules.proofs.Framed.{placed, grown, framed, parent-same, number-same}
 use Rattle.block_rules.proofs.Kept.{entries-off}
@@ -83,8 +84,8 @@ module _ (m : List ℕ) (s : Sound m) (d c b r : ℕ) (p : Partition m d) (stand
   kernel : KernelStays m now
   kernel = T.kernel m now s (grown m now s frame) d b p turns
 
-  b-same : (g : ℕ) → g < 9 → ¬ ((3 ≤ g) × (g < 6)) → Same m now d b g
-  b-same g = T.same m now s (grown m now s frame) d b p turns d b g live-b
+  b-same : SameButUse m now d b
+  b-same = T.same m now s (grown m now s frame) d b p turns d b live-b
 
   -- ---- the new block
 

@@ -199,7 +199,7 @@ module _ (m : List ℕ) (s : Sound m) (d c : ℕ) (p : Partition m d) (stands : 
         inHand = given m m₂ s Gone leaving shrunk d n p d-stays b 0 (omega arith);
         noChild = given m m₂ s Gone leaving shrunk d n p d-stays b 1 (omega arith);
         noLink = given m m₂ s Gone leaving shrunk d n p d-stays b 2 (omega arith);
-        others = λ f i a. same m m₂ s Gone leaving shrunk d n f l d-stays i a;
+        others = same m m₂ s Gone leaving shrunk d n l d-stays;
       }
 
   wiped-now : (u : ℕ) → Partition m u → Below m t u → Specs.Wiped m m₂ u

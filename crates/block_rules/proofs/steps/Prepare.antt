@@ -22,8 +22,9 @@ use Rattle.block_soundness.proofs.Blocks.{used-as}
 use Rattle.block_soundness.proofs.Records.{Record, desc, desc-is, words, base, Valid, low, layout}
 use Rattle.block_soundness.proofs.Child.{named-own, named-child, named-partition, ChildOf, child-of}
 use Rattle.block_rules.specs.Effects.{prepareFor}
-use Rattle.block_rules.proofs.Keep.{this-or, wiped-slot, Same, named-same}
-use Rattle.block_rules.proofs.Ground.{root-now, parent-on, number-on}
+use Rattle.block_rules.proofs.Stays.{Same, parent-on, number-on}
+use Rattle.block_rules.proofs.Keep.{this-or, wiped-slot, named-same}
+use Rattle.block_rules.proofs.Ground.{root-now}
 use Rattle.block_rules.proofs.Grown.{words8}
 use Rattle.block_rules.proofs.Uses.{holds-structure}
 use Rattle.block_rules.proofs.Room.{above-own, clear-of}
@@ -132,7 +133,7 @@ module _ (m : List ℕ) (s : Sound m) (d c b : ℕ) (p : Partition m d) (stands 
           own = omega (arith, o);
           ofRoot = λ x. absurd (h .notRoot (x ∙ root-now m now s size));
           inOwn = λ x. absurd (omega (arith, x, o));
-          inParent = λ x. stands-in (parent now t) (number now t) (parent-on m now s size t w ∙ h .parentWord) (number-on m now s size t w ∙ h .numberWord);
+          inParent = λ x. stands-in (parent now t) (number now t) (parent-on m now t w ∙ h .parentWord) (number-on m now t w ∙ h .numberWord);
         }
   ]
 

@@ -16,8 +16,9 @@ use Rattle.block_soundness.proofs.Child.{ChildOf, child-of}
 use Rattle.block_rules.specs.Effects.{disable, giveBack, freeSlot, removeFrom}
 use Rattle.block_rules.proofs.Frame.{Placed, Frame}
 use Rattle.block_rules.proofs.Trail.{trail, Wrote, wrote}
-use Rattle.block_rules.proofs.Keep.{this-or, wiped-slot, Same, FirstStays, later-from}
-use Rattle.block_rules.proofs.Ground.{SourceStays, Beside, given-back}
+use Rattle.block_rules.proofs.Stays.{Same, SameButUse, FirstStays, later-from, SourceStays, Beside}
+use Rattle.block_rules.proofs.Keep.{this-or, wiped-slot}
+use Rattle.block_rules.proofs.SlotStays.{given-back}
 use Rattle.block_rules.proofs.Grown.{KernelStays, words8}
 use Rattle.block_rules.proofs.Framed.{placed, grown, framed}
 use Rattle.block_rules.proofs.Kept.{first-piece, unwritten-stays, entries-off}
@@ -118,8 +119,8 @@ module _ (m : List ℕ) (s : Sound m) (d c b : ℕ) (p : Partition m d) (stands 
   b-not-n : ¬ ((d ≡ t) × (b ≡ n))
   b-not-n (y, z) = kid .notSelf (sym y)
 
-  same : (u o g : ℕ) → Partition m u → ¬ ((u ≡ t) × (o ≡ n)) → g < 9 → ¬ ((3 ≤ g) × (g < 6)) → Same m now u o g
-  same u o g v a i h = others u o g v i a (λ (y, z, w, k). h (w, k))
+  same : (u o : ℕ) → Partition m u → ¬ ((u ≡ t) × (o ≡ n)) → SameButUse m now u o
+  same u o v a g i h = others u o g v i a (λ (y, z, w, k). h (w, k))
 
   kernel : KernelStays m now
   kernel u o g l h i = others u o g (l .partition) (omega arith)
@@ -134,7 +135,7 @@ module _ (m : List ℕ) (s : Sound m) (d c b : ℕ) (p : Partition m d) (stands 
       let x = child-of m s u (child m u o) (l .partition) (h .toChild) in
       let away : ¬ ((place m u (child m u o) ≡ t) × (link m u o ≡ n)) = λ (y, z).
       a (sym (x .parentWord) ∙ ap (parent m) y ∙ kid .parentWord, sym (h .fromThis) ∙ ap₂ (λ (i j : ℕ). source m i j) y z ∙ source-n) in
-      (same _ _ 6 (f .partition) away (omega arith) (omega arith), same _ _ 7 (f .partition) away (omega arith) (omega arith))
+      (same _ _ (f .partition) away 6 (omega arith) (omega arith), same _ _ (f .partition) away 7 (omega arith) (omega arith))
 
   -- a block that came from b is n
   from-b : (u o : ℕ) (l : Live m u o) → u ≢ root m → parent m u ≡ d → source m u o ≡ b → (u ≡ t) × (o ≡ n)
@@ -142,23 +143,23 @@ module _ (m : List ℕ) (s : Sound m) (d c b : ℕ) (p : Partition m d) (stands 
       let w : u ≡ t = one-child m s u t o n l live-n e (kid .notRoot) (y ∙ sym (kid .parentWord)) (z ∙ sym source-n) in
       (w, only o (subst (λ (k : ℕ). Live m k o) w l) (ap (λ (k : ℕ). source m k o) (sym w) ∙ z))
 
-  lent : (u o : ℕ) → Live m u o → ¬ ((u ≡ t) × (o ≡ n)) → SourceStays m now s (frame .size) u o
+  lent : (u o : ℕ) → Live m u o → ¬ ((u ≡ t) × (o ≡ n)) → SourceStays m now u o
   lent u o l a e g i =
       let x = up m s l e in
       others (parent m u) (source m u o) g (x .alive .partition) (omega arith)
       (λ (y, z). omega (arith, hand, x .lent, ap₂ (λ (k w : ℕ). used m k w) y z))
       (λ (y, z, w, k). a (from-b u o l e y z))
 
-  beside : (u o : ℕ) (l : Live m u o) → Beside m now s (frame .size) l
+  beside : (u o : ℕ) (l : Live m u o) → Beside m now u o
   beside u o l = record {
     prior = λ z.
         let e = before m s l z .forth in
         let a : ¬ ((u ≡ t) × (previous m u o ≡ n)) = λ (y, w). omega (arith, number-some m s l, e, last-n, ap₂ (λ (i j : ℕ). next m i j) y w) in
-        same _ _ 8 (l .partition) a (omega arith) (omega arith);
+        same _ _ (l .partition) a 8 (omega arith) (omega arith);
     later = later-from m now u o (λ z g (i, j, h).
         let e = block m s l .pieces .more z .back in
         let a : ¬ ((u ≡ t) × (next m u o ≡ n)) = λ (y, w). omega (arith, number-some m s l, e, first-n, ap₂ (λ (i j : ℕ). previous m i j) y w) in
-        same _ _ g (l .partition) a (omega arith) h);
+        same _ _ (l .partition) a g (omega arith) h);
   }
 
   -- ---- the slots
@@ -168,7 +169,7 @@ module _ (m : List ℕ) (s : Sound m) (d c b : ℕ) (p : Partition m d) (stands 
 
   back-slot : Slot now d b
   back-slot =
-      given-back m now s (frame .size) live-b (words8 m now s (grown m now s frame) d p) (λ g i h. same d b g p b-not-n i h)
+      given-back m now s (frame .size) live-b (words8 m now s (grown m now s frame) d p) (same d b p b-not-n)
       (is-back 0 (omega arith)) (is-back 1 (omega arith)) (is-back 2 (omega arith)) (lent d b live-b b-not-n) (beside d b live-b)
 
   slots : (u o : ℕ) → Partition m u → Has m u o → Slot now u o
@@ -185,7 +186,7 @@ module _ (m : List ℕ) (s : Sound m) (d c b : ℕ) (p : Partition m d) (stands 
       framed m now s frame kernel (subst (Partition m) (sym (given .trail .now)) (s .header .currentWord))
       (this-or (λ u o. used now u o ≢ 0) d b (root m) 8 (λ z. omega (arith, z, is-back 0 (omega arith)))
       (λ ab z. f .block (sym (others (root m) 8 3 x (omega arith) away (λ (y, e, h, k). ab (y, e))) ∙ z)))
-      (same (root m) 8 7 x away (omega arith) (omega arith) ∙ f .first)
+      (same (root m) 8 x away 7 (omega arith) (omega arith) ∙ f .first)
       (entries-off m now s t n live-n (given .trail .entries) not-enabled (λ u o l e a.
       others u o 3 (l .partition) (omega arith) a (λ (y, z, h, k). omega (arith, e, lends, ap₂ (λ (i j : ℕ). used m i j) y z)) ∙ e))
       slots
