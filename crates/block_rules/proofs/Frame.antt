@@ -11,7 +11,8 @@ use Rattle.block_memory.specs.Words.{word}
 use Rattle.block_memory.specs.Partition.{root, Partition, structure}
 use Rattle.block_memory.proofs.Lookups.{structure-same}
 use Rattle.block_soundness.proofs.Ranges.{Permitted}
-use Rattle.block_soundness.proofs.Records.{Record, desc, struct, base, Valid, Layout}
+use Rattle.block_soundness.proofs.Records.{Record, desc, struct, base, Valid}
+use Rattle.block_soundness.proofs.Disjoint.{Layout}
 
 -- a permitted length, and records that share no word
 pub record Placed (m : List ℕ) : Type 0 where

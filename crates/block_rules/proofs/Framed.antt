@@ -9,7 +9,7 @@ use Rattle.block_memory.specs.Words.{word}
 use Rattle.block_memory.specs.Partition.{root, current, Partition, parent, number, Has, used, previous}
 use Rattle.block_memory.specs.Sound.{Sound, Table, Entries, Structures, Slot}
 use Rattle.block_soundness.proofs.Ranges.{Permitted, permitted-now}
-use Rattle.block_soundness.proofs.Records.{layout}
+use Rattle.block_soundness.proofs.Disjoint.{layout}
 use Rattle.block_rules.proofs.Frame.{Placed, Frame, to, back, structure-stays}
 use Rattle.block_rules.proofs.Stays.{parent-on, number-on}
 use Rattle.block_rules.proofs.Ground.{root-now, header-on}

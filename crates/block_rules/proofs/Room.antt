@@ -8,7 +8,8 @@ use Rattle.block_memory.specs.Partition.{root, Partition, end, used, place}
 use Rattle.block_memory.specs.Bytes.{Live}
 use Rattle.block_memory.specs.Sound.{Sound}
 use Rattle.block_soundness.proofs.Blocks.{used-as, block}
-use Rattle.block_soundness.proofs.Records.{Record, words, base, Valid, not-in-hand}
+use Rattle.block_soundness.proofs.Records.{Record, words, base, Valid}
+use Rattle.block_soundness.proofs.Disjoint.{not-in-hand}
 use Rattle.block_soundness.proofs.Up.{above-first}
 
 module _ (m : List ℕ) (s : Sound m) (d b n : ℕ) (p : Partition m d) (hand : used m d b ≡ 1) (room : 4 * (place m d b + n) ≤ end m d b) where

@@ -9,7 +9,8 @@ use Rattle.common.specs.Words.{overwrite}
 use Rattle.block_memory.specs.Words.{word, put}
 use Rattle.block_memory.specs.Partition.{root}
 use Rattle.common.proofs.Overwrite.{length-overwrite, overwrite-before, overwrite-after, overwrite-at, overwrite-one}
-use Rattle.block_soundness.proofs.Records.{Record, words, base, Valid, Layout}
+use Rattle.block_soundness.proofs.Records.{Record, words, base, Valid}
+use Rattle.block_soundness.proofs.Disjoint.{Layout}
 
 -- y is x with the words ws written from word i of record r on; records and where they are, are those of m
 pub record Write (m x y : List ℕ) (r : Record) (i : ℕ) (ws : List ℕ) : Type 0 where

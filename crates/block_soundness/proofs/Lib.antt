@@ -13,6 +13,7 @@ pub mod Child
 pub mod Once
 pub mod Levels
 pub mod Records
+pub mod Disjoint
 pub mod Below
 pub mod Listing
 -- ---- in hand + kernel = F

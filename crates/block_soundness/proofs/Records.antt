@@ -1,5 +1,4 @@
--- The kernel's records, descriptors and structures: in sound memory they share no word with one another, nor with the header and the table, nor with a
--- block in hand. Assumes nothing.
+-- Sound memory: the kernel's records, descriptors and structures, and the block that each but the root's first two stands in. Assumes nothing.
 use mathlib.Core.Path.{_≡_, refl, sym, ap, ap₂, _∙_, subst}
 use mathlib.Core.List.{List}
 use mathlib.Core.Logic.{_≢_}
@@ -8,18 +7,15 @@ use Prim.Native.Nat.{ℕ, _+_, _*_, _≤_, _<_}
 use native.Mathlib.Omega.{arith}
 use native.Mathlib.Decide.{ℕ-discrete}
 use lib.Dec.{eqb}
-use lib.ListN.{length}
 use borrow.Author.Tests.{eq-eqb, ne-eqb}
 use Rattle.block_memory.specs.Geometry.{descriptorWords, structureWords}
 use Rattle.block_memory.specs.Words.{word}
 use Rattle.block_memory.specs.Partition.{root, Partition, parent, number, structure, end, used, child, link, place, named, holder}
-use Rattle.block_memory.specs.Bytes.{Live, HasByte, Keeps}
+use Rattle.block_memory.specs.Bytes.{Live, Keeps}
 use Rattle.block_memory.specs.Sound.{Sound}
-use Rattle.block_soundness.proofs.Ranges.{permitted-now}
 use Rattle.block_soundness.proofs.Blocks.{used-as, block, number-some}
 use Rattle.block_soundness.proofs.Up.{above-first}
 use Rattle.block_soundness.proofs.Child.{named-own, named-child, named-partition}
-use Rattle.block_soundness.proofs.Once.{once}
 
 -- the descriptor of t, and structure k of t
 pub data Record : Type 0 where
@@ -55,11 +51,6 @@ module _ (m : List ℕ) where
   abbrev pub Valid : Record → Type 0
   Valid (desc t) = Partition m t
   Valid (struct t k) = Partition m t × (structure m t k ≢ 0)
-
-  pub record Layout : Type 0 where
-    pub inside : (r : Record) → Valid r → base r + words r ≤ length m
-    pub low : (r : Record) → Valid r → root m ≤ base r
-    pub distinct : (r q : Record) (i j : ℕ) → Valid r → Valid q → i < words r → j < words q → base r + i ≡ base q + j → r ≡ q
 
   -- the record that stands in block n of h
   unfoldable pub standing : ℕ → ℕ → Record
@@ -160,7 +151,7 @@ module _ (m : List ℕ) (s : Sound m) where
       go (yes e) (no f) = held _ _ (struct-held t k p z (λ (a, b). f b) .1)
       go (no e) f = held _ _ (struct-held t k p z (λ (a, b). e a) .1)
 
-  home : (r : Record) → Valid m r → Home m r
+  pub home : (r : Record) → Valid m r → Home m r
   home (desc t) v = desc-home t v
   home (struct t k) v = struct-home t k (v .0) (v .1)
 
@@ -168,77 +159,13 @@ module _ (m : List ℕ) (s : Sound m) where
   pub in-bytes : {h n : ℕ} {r : Record} → InBlock m h n r → (i : ℕ) → i < words r → Keeps m h n (4 * (base m r + i))
   in-bytes b i j = record { has = record { live = b .alive; from = omega (arith, b .there); upTo = omega (arith, b .room) }; notLent = b .notLent }
 
-  root-first : structure m (root m) 1 ≡ root m + descriptorWords
+  pub root-first : structure m (root m) 1 ≡ root m + descriptorWords
   root-first = s .structures (root m) (s .table .rootListed) .ofRoot refl .at
 
-  -- the kernel's own part lies below
-  abbrev Low : Record → Type 0
-  Low r = base m r + words r ≤ root m + descriptorWords + structureWords
-
-  own-low : (r q : Record) → r ≡ q → Low q → Low r
-  own-low r q e h = subst Low (sym e) h
-
-  held-high : {h n : ℕ} {r : Record} → InBlock m h n r → root m + descriptorWords + structureWords ≤ base m r
+  -- .. and lies above the kernel's own part
+  pub held-high : {h n : ℕ} {r : Record} → InBlock m h n r → root m + descriptorWords + structureWords ≤ base m r
   held-high {h} {n} {r} b = omega (arith, above-first m s (b .alive), b .there)
 
   -- the root's first structure stands in no block
   pub not-first : {h n t k : ℕ} → InBlock m h n (struct t k) → ¬ ((t ≡ root m) × (k ≡ 1))
   not-first b (x, y) = omega (arith, held-high b, root-first, ap₂ (λ (u j : ℕ). structure m u j) x y)
-
-  pub low : (r : Record) → Valid m r → root m ≤ base m r
-  low r v = go (home r v)
-    where
-      go : Home m r → root m ≤ base m r
-      go (first e) = subst (λ (x : Record). root m ≤ base m x) (sym e) (omega arith)
-      go (second e) = subst (λ (x : Record). root m ≤ base m x) (sym e) (omega (arith, root-first))
-      go (held h n b) = omega (arith, held-high b)
-
-  pub inside : (r : Record) → Valid m r → base m r + words r ≤ length m
-  inside r v = go (home r v)
-    where
-      large : root m + descriptorWords + structureWords ≤ length m
-      large = let p = permitted-now m s in omega (arith, p .whole, p .least)
-
-      go : Home m r → base m r + words r ≤ length m
-      go (first e) = omega (arith, large, own-low r (desc (root m)) e (omega arith))
-      go (second e) = omega (arith, large, own-low r (struct (root m) 1) e (omega (arith, root-first)))
-      go (held h n b) = omega (arith, b .room, block m s (b .alive) .form .inside)
-
-  distinct : (r q : Record) (i j : ℕ) → Valid m r → Valid m q → i < words r → j < words q → base m r + i ≡ base m q + j → r ≡ q
-  distinct r q i j v w a b e = go (home r v) (home q w)
-    where
-      -- the root's descriptor ends where its first structure begins
-      at-root : (x y : Record) → x ≡ desc (root m) → y ≡ struct (root m) 1 → base m x + words x ≤ base m y
-      at-root x y f g =
-          subst (λ (z : Record). base m z + words z ≤ base m y) (sym f) (subst (λ (z : Record). root m + descriptorWords ≤ base m z) (sym g)
-          (omega (arith, root-first)))
-
-      go : Home m r → Home m q → r ≡ q
-      go (first f) (first g) = f ∙ sym g
-      go (first f) (second g) = absurd (omega (arith, at-root r q f g))
-      go (first f) (held h n c) = absurd (omega (arith, own-low r (desc (root m)) f (omega arith), held-high c))
-      go (second f) (first g) = absurd (omega (arith, at-root q r g f))
-      go (second f) (second g) = f ∙ sym g
-      go (second f) (held h n c) = absurd (omega (arith, own-low r (struct (root m) 1) f (omega (arith, root-first)), held-high c))
-      go (held h n c) (first g) = absurd (omega (arith, own-low q (desc (root m)) g (omega arith), held-high c))
-      go (held h n c) (second g) = absurd (omega (arith, own-low q (struct (root m) 1) g (omega (arith, root-first)), held-high c))
-      go (held h n c) (held k o d) =
-          let (x, y) = once m s h k n o (4 * (base m r + i)) (in-bytes c i a) (subst (λ (z : ℕ). Keeps m k o (4 * z)) (sym e) (in-bytes d j b)) in
-          sym (c .is) ∙ ap₂ (λ (u t : ℕ). standing m u t) x y ∙ d .is
-
-  pub layout : Layout m
-  layout = record { inside = inside; low = low; distinct = distinct }
-
-  -- no record has a word in a block in hand
-  pub not-in-hand : (r : Record) → Valid m r → (i : ℕ) → i < words r → (d n : ℕ) → HasByte m d n (4 * (base m r + i)) → used m d n ≢ 1
-  not-in-hand r v i a d n b z = go (home r v)
-    where
-      hand : Keeps m d n (4 * (base m r + i))
-      hand = record { has = b; notLent = λ w. omega (arith, w, z) }
-
-      go : Home m r → ⊥
-      go (first e) = omega (arith, above-first m s (b .live), b .from, own-low r (desc (root m)) e (omega arith))
-      go (second e) = omega (arith, above-first m s (b .live), b .from, own-low r (struct (root m) 1) e (omega (arith, root-first)))
-      go (held h o c) =
-          let (x, y) = once m s d h n o (4 * (base m r + i)) hand (in-bytes c i a) in
-          c .notHand (sym (ap₂ (λ (u t : ℕ). used m u t) x y) ∙ z)

@@ -15,7 +15,8 @@ use Rattle.block_memory.proofs.Lists.{after-three}
 use Rattle.block_memory.proofs.Lookups.{entry-at, structure-at}
 use Rattle.block_soundness.proofs.Ranges.{permitted-now, entry-range, structure-range}
 use Rattle.block_soundness.proofs.Levels.{room-below}
-use Rattle.block_soundness.proofs.Records.{desc, low}
+use Rattle.block_soundness.proofs.Records.{desc}
+use Rattle.block_soundness.proofs.Disjoint.{low}
 use Rattle.block_rules.specs.Effects.{createIn}
 use Rattle.block_rules.proofs.Ground.{root-now}
 use Rattle.block_rules.proofs.Uses.{holds-descriptor}

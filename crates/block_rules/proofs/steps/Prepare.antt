@@ -19,7 +19,8 @@ use Rattle.block_memory.proofs.Lookups.{inStructure, structure-at, field-at}
 use Rattle.block_memory.proofs.Lowest.{free-structure}
 use Rattle.block_soundness.proofs.Ranges.{permitted-now, table-has}
 use Rattle.block_soundness.proofs.Blocks.{used-as}
-use Rattle.block_soundness.proofs.Records.{Record, desc, desc-is, words, base, Valid, low, layout}
+use Rattle.block_soundness.proofs.Records.{Record, desc, desc-is, words, base, Valid}
+use Rattle.block_soundness.proofs.Disjoint.{low, layout}
 use Rattle.block_soundness.proofs.Child.{named-own, named-child, named-partition, ChildOf, child-of}
 use Rattle.block_rules.specs.Effects.{prepareFor}
 use Rattle.block_rules.proofs.Stays.{Same, parent-on, number-on}
