@@ -1,4 +1,5 @@
--- Sound memory: the kernel's records, descriptors and structures, and the block that each but the root's first two stands in. Assumes nothing.
+-- Sound memory: the kernel's records, descriptors and structures, and the blocks that they stand in; the root's descriptor and first structure stand in none.
+-- Assumes nothing.
 use mathlib.Core.Path.{_≡_, refl, sym, ap, ap₂, _∙_, subst}
 use mathlib.Core.List.{List}
 use mathlib.Core.Logic.{_≢_}
