@@ -2,7 +2,7 @@
 use mathlib.Core.Path.{_≡_, refl, sym, ap, _∙_}
 use mathlib.Core.Logic.{_≢_, _↔_}
 use mathlib.Core.List.{List}
-use mathlib.Core.Bool.{Bool, true, false, cond}
+use mathlib.Core.Bool.{Bool, true, false, false≢true, cond}
 use mathlib.Core.Option.{some}
 use Prim.Native.Nat.{ℕ}
 use native.Mathlib.Omega.{arith}
@@ -58,7 +58,8 @@ module _ (m : List ℕ) (s : Sound m) (p x : ℕ) (passes : refusal m (serve (fi
   unfolding isBlock
   one n b =
       let is : blockAt m t x ≡ n = finds m s t n x b in
-      (answer-is ∙ ap (λ (k : ℕ). ok (isBlock k)) is ∙ ap (λ (z : Bool). ok (cond z 0 1)) (ne-eqb n 0 (λ z. omega (arith, z, number-some m s (b .live)))), told-is ∙ ap (sixWords m t) is)
+      let block = ne-eqb n 0 (λ z. omega (arith, z, number-some m s (b .live))) in
+      (answer-is ∙ ap (λ (k : ℕ). ok (isBlock k)) is ∙ ap (λ (z : Bool). ok (cond z 0 1)) block, told-is ∙ ap (sixWords m t) is)
 
   none : ((n : ℕ) → ¬ (HasByte m t n x)) → (answer m (serve (find p x)) ≡ ok 0) × (told m (serve (find p x)) ≡ noBlock)
   unfolding isBlock
@@ -100,8 +101,8 @@ module _ (m : List ℕ) (s : Sound m) {d n : ℕ} (l : Live m d n) (lent : used 
 
 seven : (a b : Bool) → (_≡_ {A = ℕ} (cond a 7 (cond b 3 0)) 7) ↔ (a ≡ true)
 seven true b = ((λ e. refl), λ e. refl)
-seven false true = ((λ e. absurd (omega arith)), λ e. absurd (let z : _≡_ {A = ℕ} 0 1 = cc in omega arith))
-seven false false = ((λ e. absurd (omega arith)), λ e. absurd (let z : _≡_ {A = ℕ} 0 1 = cc in omega arith))
+seven false true = ((λ e. absurd (omega arith)), λ e. absurd (false≢true e))
+seven false false = ((λ e. absurd (omega arith)), λ e. absurd (false≢true e))
 
 pub every-unmerged : EveryUnmerged
 every-unmerged m s n lent =
