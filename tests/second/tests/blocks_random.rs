@@ -138,7 +138,7 @@ fn any_sound_memory_stays_sound() {
     for (seed, kib, count) in [(14, 16, 3000), (15, 17, 2000), (16, 64, 800)] {
         let mut mem = formatted(kib);
         for part in make(seed, count, kib).chunks(50) {
-            for _ in 0..40 {
+            for _ in 0..60 {
                 let changes = damage(&mem, &mut random);
                 let mut copy = applied(&mem, &changes);
                 if copy == mem || !sound(&copy) {
