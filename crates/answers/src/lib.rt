@@ -2,7 +2,7 @@
 pub mod outcomes;
 pub mod packing;
 
-pub use outcomes::Outcome;
+pub use common::Outcome;
 pub use outcomes::outcome_of;
 pub use packing::pack;
 ghost use mathlib.Core.Path.{_≡_};

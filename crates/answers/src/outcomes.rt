@@ -1,12 +1,11 @@
 // An answer in two parts.
 use crate::Answer;
+use common::Outcome;
 ghost use mathlib.Core.Path.{_≡_};
 ghost use Rattle.answers.specs.Said.{said};
 ghost use Rattle.answers.specs.Packed.{outcome};
 
 // Ok with a word, or no with a refusal's number.
-pub struct Outcome(pub bool, pub u32);
-
 pub fn outcome_of(a: Answer) -> Outcome
     ensures { λ r. ⌜ outcome (r .0) (r .1) ≡ said a ⌝ }
 {

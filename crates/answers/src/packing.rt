@@ -9,6 +9,5 @@ ghost use Rattle.answers.specs.Packed.{packed};
 pub fn pack(a: Answer) -> u64
     ensures { λ r. ⌜ r ≡ packed (said a) ⌝ }
 {
-    let o = outcome_of(a);
-    if o.0 { o.1 as u64 } else { (o.1 as u64) << 32 }
+    common::pack(outcome_of(a))
 }

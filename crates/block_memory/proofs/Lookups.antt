@@ -48,7 +48,7 @@ pub field-at : (m : List ℕ) (d n f : ℕ) → Has m d n → field m d n f ≡ 
 unfolding field
 field-at m d n f h = ap (λ (t : Bool). cond t 0 (word m (slot m d n + f))) (ne-eqb (structure m d (n / 8)) 0 h)
 
-field-none : (m : List ℕ) (d n f : ℕ) → structure m d (n / 8) ≡ 0 → field m d n f ≡ 0
+pub field-none : (m : List ℕ) (d n f : ℕ) → structure m d (n / 8) ≡ 0 → field m d n f ≡ 0
 unfolding field
 field-none m d n f h = ap (λ (t : Bool). cond t 0 (word m (slot m d n + f))) (eq-eqb (structure m d (n / 8)) 0 h)
 

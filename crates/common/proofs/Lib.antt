@@ -1,2 +1,9 @@
 pub mod Overwrite
 pub mod Rows
+pub mod Writing
+pub mod Chains
+pub mod Bits
+pub mod Standing
+pub mod Fitting
+pub mod Places
+pub mod Running

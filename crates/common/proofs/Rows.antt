@@ -5,7 +5,7 @@ use mathlib.Core.List.{List, [], _∷_, _++_}
 use mathlib.Core.Bool.{Bool, true, false, cond}
 use Prim.Native.Nat.{ℕ, zero, suc}
 use native.Mathlib.Omega.{arith}
-use Rattle.common.specs.Row.{Check, _when_, first, ok, no, reply}
+use Rattle.common.specs.Row.{Check, _when_, first, ok, no, reply, pass}
 
 -- the row comes to r, by its first test that holds
 pub data First {R : Type 0} (number : R → ℕ) : List (Check R) → ℕ → Type 0 where
@@ -84,3 +84,15 @@ pub reply-no : (n k x : ℕ) → n ≡ k → k ≢ 0 → no k ≡ reply n x
 unfolding reply
 reply-no n zero x e h = absurd (h refl)
 reply-no n (suc k) x e h = ap (λ (i : ℕ). reply i x) (sym e)
+
+-- of a refused call no word changes, and its own word does not matter
+
+pub kept : (n : ℕ) (x y : List ℕ) → n ≢ 0 → y ≡ pass n x y
+unfolding pass
+kept zero x y h = absurd (h refl)
+kept (suc n) x y h = refl
+
+pub worded : (n x y : ℕ) → n ≢ 0 → reply n x ≡ reply n y
+unfolding reply
+worded zero x y h = absurd (h refl)
+worded (suc n) x y h = refl

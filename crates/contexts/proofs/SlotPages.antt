@@ -1,7 +1,7 @@
 -- Where a slot page stands, and when it cannot be used, in the code's terms. Assumes nothing.
 use mathlib.Core.Path.{_≡_, refl, sym, ap, _∙_}
 use mathlib.Core.Logic.{_≢_}
-use mathlib.Core.Bool.{true, not}
+use mathlib.Core.Bool.{Bool, true, not}
 use mathlib.Core.List.{List}
 use Prim.Native.Nat.{ℕ, suc, _+_, _-_, _*_, _%_, _^_, _≤_, _<_}
 use native.Mathlib.Nat.{suc-mul}
@@ -10,8 +10,8 @@ use borrow.Author.Tests.{eq-eqb, ne-eqb}
 use lib.Pow.{pow-pos, pow-add}
 use Rattle.memory.specs.Geometry.{pageWords, pageBytes, addressEnd, address, pageOf, flatPages}
 use Rattle.memory.specs.Entry.{accessible, holds}
-use Rattle.memory.specs.Partition.{pages, lent}
-use Rattle.memory.specs.Contexts.{slotsAt, slotsEntry, noSlots}
+use Rattle.memory.specs.Partition.{pages, directory, shadow1, tableWord, lent}
+use Rattle.memory.specs.Contexts.{slotsAt, slotsEntry, slotPage, noSlots}
 use Rattle.memory.proofs.Geometry.{page-address, addressEnd-is}
 use Rattle.pages.proofs.Laws.{one-bit, hand-absent, hand-shut, hand-rest}
 
@@ -42,15 +42,44 @@ module _ (b : ℕ) (m : List ℕ) (d : ℕ) where
   slots-other l n = rw (ne-eqb d 1 n) (ap (λ (x : ℕ). x - 1) (one-bit (2 * b) (omega arith)) ∙ sym (last-page b))
 
   -- 20, test by test
-  pub none-absent : slotsEntry b m d ≡ 0 → noSlots b m d ≡ true
+  none-absent : slotsEntry b m d ≡ 0 → noSlots b m d ≡ true
   none-absent e = rw (hand-absent b m d (slotsAt b m d) e) refl
 
-  pub none-shut : slotsEntry b m d ≢ 0 → accessible (slotsEntry b m d) ≢ 1 → noSlots b m d ≡ true
+  none-shut : slotsEntry b m d ≢ 0 → accessible (slotsEntry b m d) ≢ 1 → noSlots b m d ≡ true
   none-shut n a = rw (hand-shut b m d (slotsAt b m d) n a) refl
 
-  pub none-lent : slotsEntry b m d ≢ 0 → accessible (slotsEntry b m d) ≡ 1 → lent b m d (slotsAt b m d) ≢ 0 → noSlots b m d ≡ true
+  none-lent : slotsEntry b m d ≢ 0 → accessible (slotsEntry b m d) ≡ 1 → lent b m d (slotsAt b m d) ≢ 0 → noSlots b m d ≡ true
   none-lent n a l = rw (hand-rest b m d (slotsAt b m d) n a, ne-eqb (lent b m d (slotsAt b m d)) 0 l) refl
 
-  pub none-rights : slotsEntry b m d ≢ 0 → accessible (slotsEntry b m d) ≡ 1 → lent b m d (slotsAt b m d) ≡ 0
+  none-rights : slotsEntry b m d ≢ 0 → accessible (slotsEntry b m d) ≡ 1 → lent b m d (slotsAt b m d) ≡ 0
       → noSlots b m d ≡ not (holds 3 (slotsEntry b m d))
   none-rights n a l = rw (hand-rest b m d (slotsAt b m d) n a, eq-eqb (lent b m d (slotsAt b m d)) 0 l) refl
+
+  -- the same by what the calls return: the slots' virtual page v, the directory r and its word w, whether accessible a, shadow 1 s and its word l
+  module _ {v r w : ℕ} (p : v ≡ pageOf b (slotsAt b m d)) (q : r ≡ directory b m d) (e : w ≡ tableWord b m r v) where
+    entry-is : w ≡ slotsEntry b m d
+    entry-is = cc
+
+    pub page-is : {x : ℕ} → x ≡ pageOf b w → x ≡ slotPage b m d
+    page-is h = h ∙ ap (pageOf b) entry-is
+
+    pub by-absent : w ≡ 0 → true ≡ noSlots b m d
+    by-absent z = sym (none-absent (sym entry-is ∙ z))
+
+    module _ (n : w ≢ 0) {a : ℕ} (f : a ≡ accessible w) where
+      access-is : a ≡ accessible (slotsEntry b m d)
+      access-is = f ∙ ap accessible entry-is
+
+      pub by-shut : a ≢ 1 → true ≡ noSlots b m d
+      by-shut k = sym (none-shut (λ z. n (entry-is ∙ z)) (λ z. k (access-is ∙ z)))
+
+      module _ (o : a ≡ 1) {s l : ℕ} (g : s ≡ shadow1 b m d) (h : l ≡ tableWord b m s v) where
+        lent-is : l ≡ lent b m d (slotsAt b m d)
+        lent-is = cc
+
+        pub by-lent : l ≢ 0 → true ≡ noSlots b m d
+        by-lent k = sym (none-lent (λ z. n (entry-is ∙ z)) (sym access-is ∙ o) (λ z. k (lent-is ∙ z)))
+
+        pub by-rights : {x : Bool} → l ≡ 0 → x ≡ holds 3 w → not x ≡ noSlots b m d
+        by-rights k y =
+            ap not (y ∙ ap (holds 3) entry-is) ∙ sym (none-rights (λ z. n (entry-is ∙ z)) (sym access-is ∙ o) (sym lent-is ∙ k))

@@ -1,7 +1,6 @@
 pub mod Words
 pub mod Numbered
 pub mod Places
-pub mod Writing
 pub mod Replied
 pub mod Fitting
 pub mod Running

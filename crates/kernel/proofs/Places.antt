@@ -1,13 +1,14 @@
 -- How many places the answer of a call takes: a resume's twelve, any other's one. Assumes nothing.
-use mathlib.Core.Path.{_≡_, refl, ap₂, _∙_}
+use mathlib.Core.Path.{_≡_, refl}
 use mathlib.Core.Bool.{Bool, true, false, cond}
-use mathlib.Core.List.{List, [], _∷_}
+use mathlib.Core.List.{List}
 use mathlib.Core.Option.{Option, none, some}
-use Prim.Native.Nat.{ℕ, zero, suc, _+_, _≤_, _<_}
+use Prim.Native.Nat.{ℕ, zero, suc, _≤_, _<_}
 use native.Mathlib.Omega.{arith}
 use borrow.Author.Tests.{eq-eqb, eqb-true, eqb-false, leb-false}
 use lib.Dec.{leb, eqb}
-use lib.ListN.{length, length-append}
+use lib.ListN.{length}
+use Rattle.common.proofs.Places
 use Rattle.memory.specs.Edition.{width}
 use Rattle.memory.specs.Words.{tabulate}
 use Rattle.memory.specs.Contexts.{valid, savedIn}
@@ -89,6 +90,4 @@ unfolding context C.context
 reply-places m c = beside (width m) m (refusal (width m) m c) (resumption c)
 
 pub replies-places : (m : List ℕ) (cs : List Call) → length (replies m cs) ≡ placesAll cs
-unfolding replies placesAll
-replies-places m [] = refl
-replies-places m (c ∷ cs) = length-append (replyOf m c) (replies (after m c) cs) ∙ ap₂ (λ (x y : ℕ). x + y) (reply-places m c) (replies-places (after m c) cs)
+replies-places = Places.replies-places places after replyOf reply-places

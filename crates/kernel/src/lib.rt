@@ -1,5 +1,4 @@
 // The kernel: the open calls, a call by its number, the run of a sequence, and the verdict of a memory.
-mod calls;
 mod numbers;
 mod replies;
 mod sequences;

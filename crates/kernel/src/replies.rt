@@ -1,9 +1,9 @@
 // One call of a sequence: its arguments are words, and its answer is one number, or twelve of a resume. Beyond the twelve (numbers) 13 is notify,
 // 14 dispatch and 15 resume.
-use crate::calls;
-use crate::numbers::numbered_call;
 use answers::Answer;
 use answers::pack;
+use calls::numbered_call;
+use common::write_words;
 ghost use mathlib.Core.Path.{_≡_};
 ghost use mathlib.Core.Logic.{_≢_};
 ghost use mathlib.Core.Bool.{true};
@@ -62,24 +62,6 @@ fn single(m: &mut [u32], ws: &[u32], i: usize) -> Answer
         return calls::notify(m, a[0], a[1], a[2], registers(ws, i));
     }
     calls::dispatch(m, a[0])
-}
-
-fn wide(x: u32) -> u64
-    ensures { λ r. ⌜ r ≡ x ⌝ }
-{
-    x as u64
-}
-
-// Writes the words from place p on.
-fn write_words(answers: &mut [u64], p: usize, words: &[u32])
-    requires { ⌜ p + length (now words) ≤ length (now answers) ⌝ }
-    ensures { λ r. ⌜ now (answers .exit) ≡ overwrite (now (answers .entry)) p (now (words .entry)) ⌝ }
-{
-    let mut k = 0;
-    while k < words.len() {
-        answers[p + k] = wide(words[k]);
-        k += 1;
-    }
 }
 
 // The call that stands whole at word i, its answer written from place p on. Answers where the next answer begins.

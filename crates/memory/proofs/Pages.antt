@@ -6,10 +6,10 @@ use Prim.Native.Nat.{ℕ, min, _+_, _-_, _≤_, _<_}
 use native.Mathlib.Nat.{mul-le-mul-right, suc-mul}
 use native.Mathlib.Decide.{decLt}
 use native.Mathlib.Omega.{arith}
-use lib.ListN.{length, getD, take, drop, replicate, length-replicate, getD-replicate, length-take, length-drop}
+use lib.ListN.{length, getD, take, drop, replicate, length-replicate, getD-replicate}
 use Rattle.memory.specs.Geometry.{pageWords}
 use Rattle.memory.specs.Words.{start, index, word, overwrite, fill, wipe}
-use Rattle.common.proofs.Overwrite.{length-overwrite, overwrite-before, overwrite-after, overwrite-at, part-back, zeros}
+use Rattle.common.proofs.Overwrite.{length-overwrite, overwrite-before, overwrite-after, overwrite-at, part-back}
 
 pub three-ways : (x y : ℕ) → (x < y) ⊎ ((x ≡ y) ⊎ (y < x))
 three-ways x y = pick (decLt x y) (decLt y x)
@@ -50,12 +50,6 @@ module _ (b : ℕ) (m : List ℕ) (p a e : ℕ) (ha : a ≡ min (start b p) (len
       → take a m ++ (ys ++ drop (e - a) (drop a m)) ≡ fill b m p ws
   unfolding fill
   fill-back ws ys h k = ap (λ (l : List ℕ). take a m ++ (l ++ drop (e - a) (drop a m))) k ∙ part-back m (start b p) (pageWords b) a e ws h ha he
-
-  pub wipe-back : (ys : List ℕ) → ys ≡ replicate (length (take (e - a) (drop a m))) 0 → take a m ++ (ys ++ drop (e - a) (drop a m)) ≡ wipe b m p
-  unfolding wipe
-  wipe-back ys k =
-      let n : length (take (e - a) (drop a m)) ≤ pageWords b = simp (length-take, length-drop) (omega arith) in
-      fill-back (replicate (pageWords b) 0) ys (omega (arith, length-replicate {A = ℕ} (pageWords b) 0)) (k ∙ zeros (take (e - a) (drop a m)) (pageWords b) n)
 
 pub length-wipe : (b : ℕ) (m : List ℕ) (p : ℕ) → length (wipe b m p) ≡ length m
 unfolding wipe fill

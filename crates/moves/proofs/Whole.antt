@@ -1,24 +1,14 @@
 -- A whole call from its two parts: n is the number of the refusal that the first part found, and the second part made the effect. Assumes nothing.
-use mathlib.Core.Path.{_≡_, refl, sym, ap, ap₂, _∙_}
+use mathlib.Core.Path.{_≡_, sym, ap, ap₂, _∙_}
 use mathlib.Core.Logic.{_≢_}
 use mathlib.Core.List.{List}
-use Prim.Native.Nat.{ℕ, zero, suc}
+use Prim.Native.Nat.{ℕ}
+use Rattle.common.proofs.Rows.{kept, worded}
 use Rattle.rules.specs.Row.{Answer, reply, pass}
 use Rattle.rules.specs.Call.{Call}
 use Rattle.rules.specs.Refusals.{refusal}
 use Rattle.rules.specs.Effects.{effect}
 use Rattle.rules.specs.Calls.{result, answer, after}
-
-kept : (n : ℕ) (x y : List ℕ) → n ≢ 0 → y ≡ pass n x y
-unfolding pass
-kept zero x y h = absurd (h refl)
-kept (suc n) x y h = refl
-
--- the word of a refused call does not matter
-worded : (n x y : ℕ) → n ≢ 0 → reply n x ≡ reply n y
-unfolding reply
-worded zero x y h = absurd (h refl)
-worded (suc n) x y h = refl
 
 module _ (b : ℕ) (m : List ℕ) (c : Call) (n : ℕ) (e : n ≡ refusal b m c) where
   answer-refused : (x : ℕ) → n ≢ 0 → reply n x ≡ answer b m c

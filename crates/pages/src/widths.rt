@@ -1,5 +1,5 @@
 // The geometry widths by edition, and what follows from one: the sizes of a page.
-use crate::words::read;
+use common::read;
 ghost use mathlib.Core.Path.{_≡_};
 ghost use Prim.Native.Nat.{_≤_, _<_};
 ghost use Rattle.memory.specs.Geometry.{widthOf, editionOf, mostFlag, pageWords, pageBytes};

@@ -1,27 +1,12 @@
 // The words of the memory. Reading past the end gives 0 and writing there does nothing, so no page number needs a bound.
 use crate::addresses::PhysicalPage;
+use common::read;
+use common::write;
 ghost use mathlib.Core.Path.{_≡_};
 ghost use Prim.Native.Nat.{_<_};
-ghost use lib.ListN.{getD, set};
 ghost use Rattle.memory.specs.Words;
 ghost use Rattle.memory.specs.Words.{word, put};
 ghost use Rattle.pages.specs.Width.{Width};
-
-// The word at index i, or 0 past the end.
-pub fn read(m: &[u32], i: usize) -> u32
-    ensures { λ r. ⌜ r ≡ getD (now (m .entry)) i 0 ⌝ }
-{
-    if i < m.len() { m[i] } else { 0 }
-}
-
-// Stores x at index i; past the end it does nothing.
-pub fn write(m: &mut [u32], i: usize, x: u32)
-    ensures { λ r. ⌜ now (m .exit) ≡ set (now (m .entry)) i x ⌝ }
-{
-    if i < m.len() {
-        m[i] = x;
-    }
-}
 
 // "page k is words 64k to 64k+63": where word i of page p stands. Up to 43 bits hold it, so it is worked out in 64.
 pub fn index(b: u32, p: PhysicalPage, i: u32) -> usize

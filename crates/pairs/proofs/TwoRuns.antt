@@ -4,6 +4,7 @@ use mathlib.Core.List.{List, [], _∷_, _++_}
 use Prim.Native.Nat.{ℕ, zero, suc, _<_}
 use native.Mathlib.Omega.{arith}
 use lib.ListN.{length, getD}
+use Rattle.common.specs.Room
 use Rattle.memory.specs.Edition.{width}
 use Rattle.memory.specs.Words.{overwrite}
 use Rattle.rules.specs.Row.{Answer}
@@ -21,7 +22,7 @@ use Rattle.pairs.specs.TwoRuns.{TwoRuns}
 
 -- equal answers, and equal words beside them, are equal numbers
 equal-replies : (b : ℕ) (S : ℕ → Type 0) (m n : List ℕ) (cs : List Call) → Equal b S m n cs → replies m cs ≡ replies n cs
-unfolding replies
+unfolding Room.replies
 equal-replies b S m n [] q = refl
 equal-replies b S m n (c ∷ cs) q =
     ap₂ (λ (xs ys : List ℕ). xs ++ ys) (ap₂ (λ (a : Answer) (xs : List ℕ). packed a ∷ xs) (q .0) (q .1)) (equal-replies b S (after m c) (after n c) cs (q .3))

@@ -2,8 +2,9 @@
 use native.Mathlib.Omega.{arith}
 use lib.ListN.{length-set}
 use borrow.Author.Needs.{needs}
+use Rattle.common.proofs.Writing.{reply-length}
 use Rattle.kernel.proofs.Words.{whole-parts}
-use Rattle.kernel.proofs.Replied.{resumed-length, replied-length, one-place, twelve-places, single-replied, resume-replied}
+use Rattle.kernel.proofs.Replied.{resumed-length, one-place, twelve-places, single-replied, resume-replied}
 use Rattle.kernel.proofs.replies.call.Statement.{statement}
 use Rattle.kernel.proofs.replies.call.Tie as tie
 
@@ -102,7 +103,7 @@ same-length-4 c =
     let resume = c .before .before .before .before .before .before .before .before .before in
     let s = resume .before .before .before .before .before .before .before .before .before .args in
     let x = c .before .before .before .before .before .pack2 .result in
-    replied-length (s .answers .now) (s .p) x (resume .resume .result .words) (c .before .before .write-words .ensures)
+    reply-length (s .answers .now) (s .p) x (resume .resume .result .words) (c .before .before .write-words .ensures)
 
 returns-2 : tie.Need-returns-2
 returns-2 c =

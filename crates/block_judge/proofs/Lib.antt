@@ -1,0 +1,4 @@
+pub mod Sentences
+pub mod Zeros
+pub mod Uses
+pub mod Sources

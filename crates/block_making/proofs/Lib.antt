@@ -1,0 +1,4 @@
+pub mod Turns
+pub mod Marking
+pub mod Gone
+pub mod Making

@@ -1,0 +1,4 @@
+pub mod Disabling
+pub mod Refused
+pub mod Whole
+pub mod Told

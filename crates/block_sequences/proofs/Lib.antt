@@ -1,0 +1,4 @@
+pub mod Places
+pub mod Ending
+pub mod Replied
+pub mod Running
