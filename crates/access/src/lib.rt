@@ -1,8 +1,5 @@
-// Enter and leave, and load and store as the hardware walk would do them.
-pub mod partitions;
+// Load and store as the hardware walk would do them.
 pub mod words;
 
-pub use partitions::enter;
-pub use partitions::leave;
 pub use words::load;
 pub use words::store;

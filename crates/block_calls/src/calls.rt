@@ -91,7 +91,7 @@ pub fn enable(m: &mut [u32], partition: u32, block: u32, on: u32) -> Answer
         × (now (m .exit) ≡ after (now (m .entry)) (serve (Call.enable partition block on))) ⌝ }
 {
     let good = is_sound(m);
-    block_access::enable(m, good, partition, block, on)
+    block_enabling::enable(m, good, partition, block, on)
 }
 
 // 10. The six words stand beside the answer.
@@ -104,7 +104,7 @@ pub fn read_enabled(m: &[u32], partition: u32, entry: u32) -> Told
         ⌝ }
 {
     let good = is_sound(m);
-    block_access::read_enabled(m, good, partition, entry)
+    block_telling::read_enabled(m, good, partition, entry)
 }
 
 // 11. The six words stand beside the answer.
@@ -117,7 +117,7 @@ pub fn find(m: &[u32], partition: u32, address: u32) -> Told
         ⌝ }
 {
     let good = is_sound(m);
-    block_access::find(m, good, partition, address)
+    block_telling::find(m, good, partition, address)
 }
 
 // 12.
@@ -125,7 +125,7 @@ pub fn enter(m: &mut [u32], child: u32) -> Answer
     ensures { λ r. ⌜ (said r ≡ answer (now (m .entry)) (serve (Call.enter child))) × (now (m .exit) ≡ after (now (m .entry)) (serve (Call.enter child))) ⌝ }
 {
     let good = is_sound(m);
-    block_access::enter(m, good, child)
+    block_entering::enter(m, good, child)
 }
 
 // 13.
@@ -133,5 +133,5 @@ pub fn leave(m: &mut [u32]) -> Answer
     ensures { λ r. ⌜ (said r ≡ answer (now (m .entry)) (serve Call.leave)) × (now (m .exit) ≡ after (now (m .entry)) (serve Call.leave)) ⌝ }
 {
     let good = is_sound(m);
-    block_access::leave(m, good)
+    block_entering::leave(m, good)
 }

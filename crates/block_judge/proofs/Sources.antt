@@ -1,19 +1,17 @@
--- Sentences 8 and 9 of a slot, in the words that were read of it, of its source and of the next piece; and a slot whole. Assumes nothing.
+-- Sentences 8 and 9 of a slot, in the words that were read of it and of its source; and a slot whole. Assumes nothing.
 use mathlib.Core.Path.{_≡_, refl, sym, ap, _∙_}
 use mathlib.Core.List.{List}
-use mathlib.Core.Bool.{Bool, true, false, cond, _&&_, _||_}
-use Prim.Native.Nat.{ℕ, _+_, _*_, _/_, _<_}
-use native.Mathlib.Omega.{arith}
+use mathlib.Core.Bool.{Bool, true, false, cond, _&&_}
+use Prim.Native.Nat.{ℕ, _*_}
 use lib.Bits.{bitAnd}
 use lib.Dec.{eqb}
 use lib.ListN.{length}
 use borrow.Author.Tests.{eqb-true}
 use Rattle.walk.specs.Finite.{from, all}
-use Rattle.common.proofs.Chains.{holds, chosen, not-chosen}
+use Rattle.common.proofs.Chains.{chosen, not-chosen}
 use Rattle.block_memory.specs.Geometry.{slotWords, firstByte}
-use Rattle.block_memory.specs.Partition.{root, parent, number, structure, field, rights, source, next}
+use Rattle.block_memory.specs.Partition.{root, parent, number, field, start, rights, source, previous, next}
 use Rattle.block_memory.specs.Sound.{sourceStart, sourceEnd, sourceLink}
-use Rattle.block_memory.proofs.Loops.{left, all-skip}
 use Rattle.block_soundness.specs.Test.{formTest, useTest, sourceTest, nextTest, piecesTest, slotTest}
 use Rattle.block_layout.specs.Blocks.{ReadAs}
 use Rattle.block_layout.specs.declared.blocks.Block.{Block}
@@ -58,12 +56,11 @@ module _ {m : List ℕ} {d n : ℕ} {b : Block} (r : ReadAs m d n b) where
 
   -- ---- 9
 
-  pub next-as : {x : Block} → ReadAs m d (b .next) x
-      → nextTest m d n ≡ (eqb (x .previous) n && eqb (x .start) (b .end) && eqb (x .source) (b .source) && eqb (x .rights) (b .rights))
+  pub next-as : nextTest m d n
+      ≡ (eqb (previous m d (b .next)) n && eqb (start m d (b .next)) (b .end) && eqb (source m d (b .next)) (b .source)
+      && eqb (rights m d (b .next)) (b .rights))
   unfolding nextTest
-  next-as {x} y =
-      let z : ReadAs m d (next m d n) x = rw (← r .next) y in
-      rw (z .previous, z .start, z .source, z .rights, r .end, r .source, r .rights) refl
+  next-as = rw (r .next, r .end, r .source, r .rights) refl
 
   pub pieces-as : {s e l : ℕ} → s ≡ sourceStart m d n → e ≡ sourceEnd m d n → l ≡ sourceLink m d n
       → piecesTest m d n
@@ -81,16 +78,3 @@ module _ {m : List ℕ} {d n : ℕ} {b : Block} (r : ReadAs m d n b) where
   pub slot-as : (b .used ≡ 0 → ⊥) → slotTest m d n ≡ (formTest m d n && useTest m d n && sourceTest m d n && piecesTest m d n)
   unfolding slotTest
   slot-as u = not-chosen (isn't-so (r .used) u) _ _
-
--- ---- all slots
-
-module _ (m : List ℕ) (d : ℕ) where
-  -- d has no slot of number n, or one that is as it must be
-  abbrev pub slotOr : ℕ → Bool
-  slotOr n = eqb (structure m d (n / 8)) 0 || slotTest m d n
-
-  -- the numbers of a structure that isn't there are passed over
-  pub pass : (n : ℕ) {s : ℕ} → s ≡ structure m d (n / 8) → s ≡ 0 → n < 136 → all slotOr (left 136 (n / 8 * 8 + 8)) ≡ all slotOr (left 136 n)
-  pass n e h l =
-      all-skip slotOr 136 (n / 8 * 8 + 8) (omega arith) n (omega arith)
-      (λ x a b. let same : x / 8 ≡ n / 8 = omega arith in holds (is-so refl (ap (structure m d) same ∙ sym e ∙ h)) _)

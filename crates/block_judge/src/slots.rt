@@ -2,8 +2,9 @@
 use block_layout::Block;
 use block_layout::DESCRIPTOR_WORDS;
 use block_layout::FIRST_NUMBER;
-use block_layout::NUMBERS_END;
+use block_layout::MOST_STRUCTURES;
 use block_layout::STRUCTURE_WORDS;
+use block_layout::block_in;
 use block_layout::block_of;
 use block_layout::first_byte;
 use block_layout::is_partition;
@@ -15,7 +16,9 @@ use block_layout::own;
 use block_layout::parent;
 use block_layout::place;
 use block_layout::previous;
+use block_layout::rights;
 use block_layout::source;
+use block_layout::start;
 use block_layout::structure;
 use block_layout::used;
 use block_layout::word_from;
@@ -243,17 +246,16 @@ fn next_test(m: &[u32], d: u32, n: u32, b: Block) -> bool
     requires { ⌜ ReadAs (now m) d n b ⌝ }
     ensures { λ r. ⌜ r ≡ Test.nextTest (now (m .entry)) d n ⌝ }
 {
-    let x = block_of(m, d, b.next);
-    if x.previous != n {
+    if previous(m, d, b.next) != n {
         return false;
     }
-    if x.start != b.end {
+    if start(m, d, b.next) != b.end {
         return false;
     }
-    if x.source != b.source {
+    if source(m, d, b.next) != b.source {
         return false;
     }
-    x.rights == b.rights
+    rights(m, d, b.next) == b.rights
 }
 
 // "If next is 0, the block ends where its source ends .."
@@ -283,11 +285,11 @@ fn pieces_test(m: &[u32], d: u32, n: u32, b: Block) -> bool
     back_test(m, d, n, b, s.end)
 }
 
-fn slot_test(m: &[u32], d: u32, n: u32) -> bool
-    requires { ⌜ length (now m) ≤ 16384 ⌝ }
+fn slot_test(m: &[u32], d: u32, n: u32, b: Block) -> bool
+    requires { ⌜ ReadAs (now m) d n b ⌝ }
+    requires short { ⌜ length (now m) ≤ 16384 ⌝ }
     ensures { λ r. ⌜ r ≡ Test.slotTest (now (m .entry)) d n ⌝ }
 {
-    let b = block_of(m, d, n);
     if b.used == 0 {
         return is_clear(m, d, n, b);
     }
@@ -300,22 +302,40 @@ fn slot_test(m: &[u32], d: u32, n: u32) -> bool
     pieces_test(m, d, n, b)
 }
 
-// Each slot of d; structures that aren't there are passed over.
+// The eight slots of structure k of d, if it is there.
+fn structure_slots_test(m: &[u32], d: u32, k: u32) -> bool
+    requires { ⌜ length (now m) ≤ 16384 ⌝ }
+    requires known { ⌜ k ≤ 16 ⌝ }
+    ensures { λ r.
+        ⌜ r ≡ all (λ n. eqb (Partition.structure (now (m .entry)) d (n / 8)) 0 || Test.slotTest (now (m .entry)) d n) (from 8 (8 * k)) ⌝ }
+{
+    let s = structure(m, d, k);
+    if s == 0 {
+        return true;
+    }
+    let e = 8 * k + 8;
+    let mut n = 8 * k;
+    while n < e {
+        if !slot_test(m, d, n, block_in(m, s, n)) {
+            return false;
+        }
+        n += 1;
+    }
+    true
+}
+
+// Each slot of d.
 pub fn slots_test(m: &[u32], d: u32) -> bool
     requires { ⌜ length (now m) ≤ 16384 ⌝ }
     ensures { λ r.
         ⌜ r ≡ all (λ n. eqb (Partition.structure (now (m .entry)) d (n / 8)) 0 || Test.slotTest (now (m .entry)) d n) numbers ⌝ }
 {
-    let mut n = FIRST_NUMBER;
-    while n < NUMBERS_END {
-        if structure(m, d, n / 8) == 0 {
-            n = n / 8 * 8 + 8;
-        } else {
-            if !slot_test(m, d, n) {
-                return false;
-            }
-            n += 1;
+    let mut k: u32 = 1;
+    while k <= MOST_STRUCTURES {
+        if !structure_slots_test(m, d, k) {
+            return false;
         }
+        k += 1;
     }
     true
 }

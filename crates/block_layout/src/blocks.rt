@@ -2,7 +2,7 @@
 use crate::partitions::structure;
 use crate::slots::slot_in;
 use common::read;
-ghost use Rattle.block_layout.specs.Blocks.{ReadAs};
+ghost use Rattle.block_layout.specs.Blocks.{ReadAs, ReadIn};
 
 pub struct Block {
     pub start: u32,
@@ -14,6 +14,45 @@ pub struct Block {
     pub source: u32,
     pub previous: u32,
     pub next: u32,
+}
+
+// The slot of block n in the structure at s, where memory may end in it: each word has its own bound.
+fn block_by_words(m: &[u32], s: u32, n: u32) -> Block
+    ensures { λ r. ⌜ ReadIn (now (m .entry)) s n r ⌝ }
+{
+    let i = slot_in(s, n);
+    Block {
+        start: read(m, i),
+        end: read(m, i + 1),
+        rights: read(m, i + 2),
+        used: read(m, i + 3),
+        child: read(m, i + 4),
+        link: read(m, i + 5),
+        source: read(m, i + 6),
+        previous: read(m, i + 7),
+        next: read(m, i + 8),
+    }
+}
+
+// The slot of block n in the structure at s, by one bound for the nine words.
+pub fn block_in(m: &[u32], s: u32, n: u32) -> Block
+    ensures { λ r. ⌜ ReadIn (now (m .entry)) s n r ⌝ }
+{
+    let i = slot_in(s, n);
+    if m.len() <= i + 8 {
+        return block_by_words(m, s, n);
+    }
+    Block {
+        start: m[i],
+        end: m[i + 1],
+        rights: m[i + 2],
+        used: m[i + 3],
+        child: m[i + 4],
+        link: m[i + 5],
+        source: m[i + 6],
+        previous: m[i + 7],
+        next: m[i + 8],
+    }
 }
 
 // Block n of d; nine zeros where d has no such slot.
@@ -34,16 +73,5 @@ pub fn block_of(m: &[u32], d: u32, n: u32) -> Block
             next: 0,
         };
     }
-    let i = slot_in(s, n);
-    Block {
-        start: read(m, i),
-        end: read(m, i + 1),
-        rights: read(m, i + 2),
-        used: read(m, i + 3),
-        child: read(m, i + 4),
-        link: read(m, i + 5),
-        source: read(m, i + 6),
-        previous: read(m, i + 7),
-        next: read(m, i + 8),
-    }
+    block_in(m, s, n)
 }

@@ -8,6 +8,7 @@ pub mod slots;
 pub mod writes;
 
 pub use blocks::Block;
+pub use blocks::block_in;
 pub use blocks::block_of;
 pub use partitions::current;
 pub use partitions::entry;

@@ -1,5 +1,5 @@
 -- A call that isn't refused found the memory sound, so that a level is small and the table short; and create step by step. Assumes nothing.
-use mathlib.Core.Path.{_≡_, sym, ap, ap₂, _∙_}
+use mathlib.Core.Path.{_≡_, sym, ap, ap₂, subst, _∙_}
 use mathlib.Core.List.{List, _∷_}
 use Prim.Native.Nat.{ℕ, _+_, _/_, _≤_, _<_}
 use native.Mathlib.Omega.{arith}
@@ -8,7 +8,7 @@ use lib.ListN.{length, set, replicate}
 use borrow.Author.Tests.{not-false}
 use Rattle.common.specs.Words.{overwrite}
 use Rattle.common.proofs.Rows
-use Rattle.block_memory.specs.Partition.{current, root, level, place}
+use Rattle.block_memory.specs.Partition.{Partition, current, root, level, place}
 use Rattle.block_memory.specs.Sound.{Sound}
 use Rattle.block_soundness.specs.Test.{soundTest}
 use Rattle.block_soundness.proofs.Ranges.{permitted-now}
@@ -21,15 +21,19 @@ use Rattle.block_rules.specs.Effects.{takeAs, createIn}
 use Rattle.block_rules.proofs.Rows.{number-some}
 
 module _ (m : List ℕ) where
+  -- the table has 512 words at most
+  pub short : Sound m → length m / 32 ≤ 512
+  short s = let p = permitted-now m s in omega (arith, p .whole, p .most)
+
   -- n is the number of the refusal
-  passed-sound : (s : Service) {n : ℕ} → n ≡ refusal m (serve s) → n ≡ 0 → Sound m
+  pub passed-sound : (s : Service) {n : ℕ} → n ≡ refusal m (serve s) → n ≡ 0 → Sound m
   unfolding refusals
   passed-sound s e z =
       sound? m .0 (not-false (soundTest m) (Rows.clear number number-some DAMAGED (damaged m) (refusalsOf m (current m) s) (sym e ∙ z) .0))
 
-  -- the table has 512 words at most
-  pub short : (s : Service) {n : ℕ} → n ≡ refusal m (serve s) → n ≡ 0 → length m / 32 ≤ 512
-  short s e z = let p = permitted-now m (passed-sound s e z) in omega (arith, p .whole, p .most)
+  -- d was read for the current partition
+  pub passed-partition : (s : Service) {n d : ℕ} → n ≡ refusal m (serve s) → n ≡ 0 → d ≡ current m → Partition m d
+  passed-partition s e z here = subst (Partition m) (sym here) (passed-sound s e z .header .currentWord)
 
   -- d was read for the current partition
   pub small : (s : Service) {n d : ℕ} → n ≡ refusal m (serve s) → n ≡ 0 → d ≡ current m → level m d < 4294967295
@@ -38,7 +42,7 @@ module _ (m : List ℕ) where
       let p = x .descriptors (current m) (x .header .currentWord) in
       let h : level m (current m) < 4294967295 = elim (ℕ-discrete (current m) (root m)) [
         | yes q ↦ omega (arith, ap (level m) q, p .ofRoot q .top)
-        | no q ↦ omega (arith, p .ofOther q .few, short s e z)
+        | no q ↦ omega (arith, p .ofOther q .few, short x)
       ] in
       omega (arith, ap (level m) here)
 

@@ -1,5 +1,5 @@
 -- Numbers that are passed over: a 0 for each that a test leaves out, and changes that leave 0 out. Assumes nothing.
-use mathlib.Core.Path.{_≡_, refl, sym, ap, _∙_}
+use mathlib.Core.Path.{_≡_, refl, sym, ap, ap₂, _∙_}
 use mathlib.Core.Logic.{_≢_}
 use mathlib.Core.List.{List, [], _∷_}
 use mathlib.Core.Bool.{Bool, true, false, false≢true, cond, _&&_}
@@ -9,14 +9,17 @@ use Rattle.walk.specs.Finite.{keep, image}
 use Rattle.block_memory.specs.Words.{over}
 use Rattle.block_making.specs.Deleting.{marked, passing}
 
+-- ---- two tests
+
+pub agree : (x y : Bool) → (x ≡ true → y ≡ true) → (y ≡ true → x ≡ true) → x ≡ y
+agree true y f g = sym (f refl)
+agree false true f g = g refl
+agree false false f g = refl
+
+pub fails : (x : Bool) → ¬ (x ≡ true) → x ≡ false
+fails x n = agree x false (λ e. absurd (n e)) (λ e. absurd (false≢true e))
+
 -- ---- one number
-
-module _ (f : ℕ → Bool) (x : ℕ) where
-  pub marked-on : f x ≡ true → x ≡ marked f x
-  marked-on h = sym (ap (λ (b : Bool). cond b x 0) h)
-
-  pub marked-off : f x ≡ false → 0 ≡ marked f x
-  marked-off h = sym (ap (λ (b : Bool). cond b x 0) h)
 
 module _ (g : List ℕ → ℕ → List ℕ) (m : List ℕ) (x : ℕ) where
   pub passed : x ≡ 0 → m ≡ passing g m x
@@ -47,6 +50,12 @@ keep-keep f g (x ∷ xs) = go (g x) (keep-keep f g xs)
         → keep f (cond t (x ∷ keep g xs) (keep g xs)) ≡ cond (t && f x) (x ∷ keep (λ y. g y && f y) xs) (keep (λ y. g y && f y) xs)
     go true e = ap (λ (l : List ℕ). cond (f x) (x ∷ l) l) e
     go false e = e
+
+-- kept by two tests that are the same
+pub keep-same : (f g : ℕ → Bool) → ((x : ℕ) → f x ≡ g x) → (xs : List ℕ) → keep f xs ≡ keep g xs
+unfolding keep
+keep-same f g e [] = refl
+keep-same f g e (x ∷ xs) = ap₂ (λ (b : Bool) (l : List ℕ). cond b (x ∷ l) l) (e x) (keep-same f g e xs)
 
 -- the changes for each that is kept, where 0 isn't
 pub over-keep : (g : List ℕ → ℕ → List ℕ) (f : ℕ → Bool) → f 0 ≡ false → (m xs : List ℕ) → over g m (keep f xs) ≡ over (passing g) m (image (marked f) xs)

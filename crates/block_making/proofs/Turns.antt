@@ -10,7 +10,7 @@ use lib.Seq.{drop-cons}
 use Rattle.walk.specs.Finite.{from, image, length-image}
 use Rattle.block_memory.specs.Words.{over}
 
-length-from : (n i : ℕ) → length (from n i) ≡ n
+pub length-from : (n i : ℕ) → length (from n i) ≡ n
 unfolding from
 length-from zero i = refl
 length-from (suc n) i = ap suc (length-from n (suc i))

@@ -1,7 +1,7 @@
 // The open calls: document 01's by its numbers, then document 02's. Each but format judges the memory first, and is then the call of that name at the
 // width of the edition that the header names.
 use answers::Answer;
-use contexts::Resumed;
+use resuming::Resumed;
 ghost use mathlib.Core.Path.{_≡_};
 ghost use Rattle.rules.specs.Call;
 ghost use Rattle.rules.specs.Editions.{answer, after, context};
@@ -32,7 +32,7 @@ pub fn delete_partition(m: &mut [u32], child: u32) -> Answer
 {
     let b = pages::width(m);
     let good = judge::is_sound(m);
-    making::delete_partition(b, m, good, child)
+    deleting::delete_partition(b, m, good, child)
 }
 
 // 3.
@@ -42,7 +42,7 @@ pub fn add_vaddr(m: &mut [u32], page: u32, child: u32, target: u32, rights: u32)
 {
     let b = pages::width(m);
     let good = judge::is_sound(m);
-    lending::add_vaddr(b, m, good, page, child, target, rights)
+    adding::add_vaddr(b, m, good, page, child, target, rights)
 }
 
 // 4.
@@ -52,7 +52,7 @@ pub fn remove_vaddr(m: &mut [u32], child: u32, target: u32) -> Answer
 {
     let b = pages::width(m);
     let good = judge::is_sound(m);
-    lending::remove_vaddr(b, m, good, child, target)
+    removing::remove_vaddr(b, m, good, child, target)
 }
 
 // 5.
@@ -91,7 +91,7 @@ pub fn mapped_in_child(m: &[u32], page: u32) -> Answer
 {
     let b = pages::width(m);
     let good = judge::is_sound(m);
-    lending::mapped_in_child(b, m, good, page)
+    asking::mapped_in_child(b, m, good, page)
 }
 
 // 9.
@@ -100,7 +100,7 @@ pub fn enter(m: &mut [u32], child: u32) -> Answer
 {
     let b = pages::width(m);
     let good = judge::is_sound(m);
-    access::enter(b, m, good, child)
+    entering::enter(b, m, good, child)
 }
 
 // 10.
@@ -109,7 +109,7 @@ pub fn leave(m: &mut [u32]) -> Answer
 {
     let b = pages::width(m);
     let good = judge::is_sound(m);
-    access::leave(b, m, good)
+    entering::leave(b, m, good)
 }
 
 // 11.
@@ -137,7 +137,7 @@ pub fn notify(m: &mut [u32], target: u32, eip: u32, eflags: u32, registers: [u32
 {
     let b = pages::width(m);
     let good = judge::is_sound(m);
-    contexts::notify(b, m, good, target, eip, eflags, registers)
+    notifying::notify(b, m, good, target, eip, eflags, registers)
 }
 
 // "Dispatch saves nothing."
@@ -146,7 +146,7 @@ pub fn dispatch(m: &mut [u32], target: u32) -> Answer
 {
     let b = pages::width(m);
     let good = judge::is_sound(m);
-    contexts::dispatch(b, m, good, target)
+    notifying::dispatch(b, m, good, target)
 }
 
 // "Resume answers the saved words": they stand beside the answer, zeros where it is refused.
@@ -160,5 +160,5 @@ pub fn resume(m: &mut [u32], target: u32, slot: u32) -> Resumed
 {
     let b = pages::width(m);
     let good = judge::is_sound(m);
-    contexts::resume(b, m, good, target, slot)
+    resuming::resume(b, m, good, target, slot)
 }

@@ -7,3 +7,4 @@ pub mod Standing
 pub mod Fitting
 pub mod Places
 pub mod Running
+pub mod Packing

@@ -3,7 +3,3 @@ pub mod SavedWords
 pub mod Target
 pub mod Toward
 pub mod Switched
-pub mod Notified
-pub mod SlotRow
-pub mod Resumed
-pub mod Beside

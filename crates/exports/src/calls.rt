@@ -1,5 +1,5 @@
 // Format, and document 01's calls by their numbers: the words of the memory, then the arguments in its order.
-// A call answers one number: the refusal's number times 2^32, plus the answer's word (`upper-half` and `lower-half` of proofs/Answered).
+// A call answers one number: the refusal's number times 2^32, plus the answer's word (`upper-half` and `lower-half` of answers/proofs/Answered).
 use crate::halves::upper;
 use answers::pack;
 ghost use mathlib.Core.Path.{_≡_};

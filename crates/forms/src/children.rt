@@ -1,8 +1,8 @@
 // "Every shadow 1 word 1 leads to a partition whose parent is this one and whose ten descriptor words agree with the parent's tables; so does each list
 // pair." "A child's kernel pages are mapped inaccessible in its parent, not lent".
-use crate::addresses::is_address;
-use crate::own::look_up;
-use crate::pairs::pairs_shut;
+use own_pages::is_address;
+use own_pages::look_up;
+use own_pages::pairs_shut;
 use pages::PhysicalPage;
 use pages::list;
 use pages::read_word;

@@ -1,10 +1,10 @@
 // The indices of a directory and its shadows: "All three have tables at the same i", "each listed three stands at one directory index, and each index
 // that has tables is listed once".
-use crate::own::Own;
-use crate::own::words_at;
 use crate::tables::three_links;
 use crate::threes::all_met;
 use crate::threes::place;
+use own_pages::Own;
+use own_pages::words_at;
 use pages::page_words;
 ghost use mathlib.Core.Path.{_≡_};
 ghost use mathlib.Core.Bool.{_&&_};
@@ -15,8 +15,8 @@ ghost use Rattle.walk.specs.Finite.{from, all, once};
 ghost use Rattle.memory.specs.Geometry.{pageWords};
 ghost use Rattle.memory.specs.Partition;
 ghost use Rattle.soundness.specs.Test.{stands};
-ghost use Rattle.forms.specs.Asked.{noTables, indexTest, indicesLeft, Skipped};
-ghost use Rattle.forms.specs.Named.{Named, Listed};
+ghost use Rattle.own_pages.specs.Asked.{noTables, indexTest, indicesLeft, Skipped};
+ghost use Rattle.own_pages.specs.Named.{Named, Listed};
 ghost use Rattle.pages.specs.Width.{Width};
 
 // An index has the forms, and has no tables or is listed once, at a three that stands at no index before it. met has a 1 for each three that was met, and

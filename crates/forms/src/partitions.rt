@@ -1,11 +1,11 @@
 // What a partition's own pages are asked: descriptor, directory and shadows, list.
-use crate::addresses::physical_address;
 use crate::indices::indices_test;
-use crate::own::Own;
-use crate::own::list_at;
-use crate::own::look_up;
-use crate::pairs::pairs_form;
-use crate::words::zero_from;
+use own_pages::Own;
+use own_pages::list_at;
+use own_pages::look_up;
+use own_pages::pairs_form;
+use own_pages::physical_address;
+use own_pages::zero_from;
 use pages::PhysicalPage;
 use pages::most_flag;
 use pages::read_word;
@@ -14,7 +14,7 @@ ghost use mathlib.Core.Bool.{_&&_};
 ghost use Rattle.walk.specs.Finite.{from, all};
 ghost use Rattle.memory.specs.Geometry.{pageWords};
 ghost use Rattle.soundness.specs.Test.{descriptorTest, directoryTest, listTest, threesTest};
-ghost use Rattle.forms.specs.Named.{Named};
+ghost use Rattle.own_pages.specs.Named.{Named};
 ghost use Rattle.pages.specs.Width.{Width};
 
 // "twelve words, pairs of virtual address in the parent and physical address ..; then 0 and the parent's descriptor address. The rest 0." Word 12

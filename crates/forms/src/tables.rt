@@ -1,6 +1,6 @@
 // "the words have the forms above": the words of a directory and of the tables.
-use crate::addresses::in_memory;
-use crate::own::Three;
+use own_pages::Three;
+use own_pages::in_memory;
 use pages::frame;
 use pages::place;
 ghost use mathlib.Core.Path.{_≡_};
@@ -8,7 +8,7 @@ ghost use Rattle.memory.specs.Geometry.{address};
 ghost use Rattle.memory.specs.Partition.{pages};
 ghost use Rattle.soundness.specs.Test.{tableLink};
 ghost use Rattle.judging.specs.Quick.{entryTest};
-ghost use Rattle.forms.specs.Asked.{links};
+ghost use Rattle.own_pages.specs.Asked.{links};
 ghost use Rattle.pages.specs.Width.{Width};
 
 // "0 or a table's physical address + 1"

@@ -1,7 +1,7 @@
 // "Each listed three stands at one directory index, and each index that has tables is listed once."
-use crate::own::Own;
-use crate::own::Three;
-use crate::own::list_at;
+use own_pages::Own;
+use own_pages::Three;
+use own_pages::list_at;
 ghost use mathlib.Core.Path.{_≡_};
 ghost use mathlib.Core.Bool.{_&&_};
 ghost use Prim.Native.Nat.{_+_, _*_, _<_, _≤_};
@@ -10,8 +10,8 @@ ghost use lib.ListN.{length, getD};
 ghost use Rattle.walk.specs.Finite.{from, all};
 ghost use Rattle.memory.specs.Words.{word};
 ghost use Rattle.memory.specs.Partition;
-ghost use Rattle.forms.specs.Asked.{listedAs, First, Sole};
-ghost use Rattle.forms.specs.Named.{Listed};
+ghost use Rattle.own_pages.specs.Asked.{listedAs, First, Sole};
+ghost use Rattle.own_pages.specs.Named.{Listed};
 ghost use Rattle.pages.specs.Width.{Width};
 
 // The words with which three j of the list stands: page table, shadow 1 table, shadow 2 table, and 1 more.

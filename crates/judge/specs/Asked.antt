@@ -5,7 +5,7 @@ use Prim.Native.Nat.{ℕ}
 use Rattle.memory.specs.Geometry.{address}
 use Rattle.memory.specs.Words.{word}
 use Rattle.memory.specs.Partition.{pages, parent}
-use Rattle.judge.specs.Rows.{Lends}
+use Rattle.tally.specs.Rows.{Lends}
 use Rattle.judge.specs.declared.cells.Asked.{Asked}
 
 pub record LookedUp (b : ℕ) (m : List ℕ) (a : Asked) : Type 0 where

@@ -1,7 +1,2 @@
-pub mod Search
-pub mod Run
-pub mod Rows
-pub mod Blocks
-pub mod Bits
 pub mod Alone
 pub mod Asked

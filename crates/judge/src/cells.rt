@@ -1,12 +1,8 @@
 // The three table words of a partition at one address: w of the page table, x of shadow 1, y of shadow 2.
-use crate::rows::block_of;
-use crate::rows::next_word;
-use crate::rows::table_of;
-use crate::tally::lent_test;
 use forms::child_forms;
 use forms::entry_test;
-use forms::memory_end;
-use forms::virtual_address;
+use own_pages::memory_end;
+use own_pages::virtual_address;
 use pages::PhysicalPage;
 use pages::VirtualPage;
 use pages::address_of;
@@ -25,6 +21,10 @@ use pages::shadow2;
 use pages::table_word;
 use pages::virtual_page;
 use pages::words_of;
+use tally::block_of;
+use tally::lent_test;
+use tally::next_word;
+use tally::table_of;
 ghost use mathlib.Core.Path.{_≡_};
 ghost use mathlib.Core.Bool.{true, _&&_, _||_};
 ghost use Prim.Native.Nat.{_+_, _≤_, _<_};
@@ -33,11 +33,11 @@ ghost use lib.ListN.{length, getD};
 ghost use Rattle.walk.specs.Finite.{from};
 ghost use Rattle.memory.specs.Geometry.{pageWords, address};
 ghost use Rattle.judging.specs.Quick.{rise};
-ghost use Rattle.judge.specs.Run.{run, asking};
-ghost use Rattle.judge.specs.Rows.{virtualPages, Lends, fromWords, belowWords, lentWord, Passed, shadow1Word, cellWords, lastWord, riseAt};
+ghost use Rattle.tally.specs.Run.{run, asking};
+ghost use Rattle.tally.specs.Rows.{virtualPages, Lends, fromWords, belowWords, lentWord, Passed, shadow1Word, cellWords, lastWord, riseAt};
 ghost use Rattle.judge.specs.Alone.{cellsTest};
 ghost use Rattle.judge.specs.Asked.{LookedUp};
-ghost use Rattle.judge.specs.Blocks.{emptyBlock};
+ghost use Rattle.tally.specs.Blocks.{emptyBlock};
 ghost use Rattle.pages.specs.Width.{Width};
 
 // A partition as a lender: its directory and its shadow 1.

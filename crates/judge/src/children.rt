@@ -1,15 +1,15 @@
 // The children of a partition.
-use crate::rows::block_of;
 use pages::PhysicalPage;
 use pages::lent;
 use pages::mapping;
 use pages::page_of;
+use tally::block_of;
 ghost use mathlib.Core.Path.{_≡_};
 ghost use Prim.Native.Nat.{_-_, _≤_};
 ghost use lib.ListN.{length, getD};
 ghost use Rattle.memory.specs.Counts.{childAt, childOf};
-ghost use Rattle.judge.specs.Search.{seek};
-ghost use Rattle.judge.specs.Rows.{childWords};
+ghost use Rattle.tally.specs.Search.{seek};
+ghost use Rattle.tally.specs.Rows.{childWords};
 ghost use Rattle.pages.specs.Width.{Width};
 
 // A child of d stands at v: a mapping with shadow 1 word 1.

@@ -2,8 +2,6 @@
 use crate::cells::cells_test;
 use crate::children::next_child;
 use crate::partitions::judge_alone;
-use crate::rows::next_word;
-use crate::rows::table_of;
 use pages::PhysicalPage;
 use pages::directory;
 use pages::least;
@@ -11,13 +9,15 @@ use pages::page_of;
 use pages::read;
 use pages::shadow1;
 use pages::words_of;
+use tally::next_word;
+use tally::table_of;
 ghost use mathlib.Core.Path.{_≡_};
 ghost use Rattle.walk.specs.Marks.{answer};
 ghost use Rattle.walk.specs.Walk as W;
 ghost use Rattle.memory.specs.Counts.{children};
 ghost use Rattle.soundness.specs.Test.{own};
 ghost use Rattle.judging.specs.Quick.{partitionTest};
-ghost use Rattle.judge.specs.Bits.{marksIn};
+ghost use Rattle.tally.specs.Bits.{marksIn};
 ghost use Rattle.pages.specs.Width.{Width};
 
 // A partition with left levels below it. The counts come before the cells, so that a partition with more children than its tables have room for is not

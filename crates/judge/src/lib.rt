@@ -2,12 +2,9 @@
 pub mod cells;
 pub mod children;
 pub mod cycle;
-pub mod marks;
 pub mod partitions;
 pub mod root;
-pub mod rows;
 pub mod sound;
-pub mod tally;
 pub mod tree;
 
 pub use sound::is_sound;

@@ -1,9 +1,9 @@
 // What a partition is asked by itself, but for its cells: of its own pages, and of the counts of its tables once they are swept.
-use crate::marks::mark_kernel;
-use crate::tally::tally;
 use forms::forms_test;
 use pages::PhysicalPage;
 use pages::mapping;
+use tally::mark_kernel;
+use tally::tally::tally;
 ghost use mathlib.Core.Path.{_≡_};
 ghost use mathlib.Core.Bool.{true, cond, _&&_};
 ghost use mathlib.Core.Option.{none};
@@ -12,7 +12,7 @@ ghost use Rattle.walk.specs.Marks.{answer, marks};
 ghost use Rattle.memory.specs.Partition;
 ghost use Rattle.soundness.specs.Test.{own};
 ghost use Rattle.judging.specs.Quick.{dueCount, mappedCount};
-ghost use Rattle.judge.specs.Bits.{marksIn};
+ghost use Rattle.tally.specs.Bits.{marksIn};
 ghost use Rattle.judge.specs.Alone.{aloneTest};
 ghost use Rattle.pages.specs.Width.{Width};
 

@@ -1,8 +1,6 @@
 // "Root's descriptor, directory, shadow roots and list are as format leaves them; it maps exactly the flat pages, with all rights and shadow 2 words 0."
-use crate::rows::next_word;
-use crate::rows::table_of;
-use forms::root_pages;
-use forms::zeros;
+use header::root_pages;
+use own_pages::zeros;
 use pages::PhysicalPage;
 use pages::VirtualPage;
 use pages::directory;
@@ -17,6 +15,8 @@ use pages::rights;
 use pages::shadow2;
 use pages::threes_for;
 use pages::words_of;
+use tally::next_word;
+use tally::table_of;
 ghost use mathlib.Core.Path.{_≡_};
 ghost use mathlib.Core.Bool.{true};
 ghost use Prim.Native.Nat.{_+_, _-_, _*_, _≤_, _<_, min};
@@ -25,8 +25,8 @@ ghost use Rattle.walk.specs.Finite.{from, all};
 ghost use Rattle.memory.specs.Geometry.{pageWords};
 ghost use Rattle.memory.specs.Counts.{tabled};
 ghost use Rattle.soundness.specs.Test.{rootMapTest, rootTest};
-ghost use Rattle.judge.specs.Run.{run, asking, bit};
-ghost use Rattle.judge.specs.Rows.{virtualPages, rootWords};
+ghost use Rattle.tally.specs.Run.{run, asking, bit};
+ghost use Rattle.tally.specs.Rows.{virtualPages, rootWords};
 ghost use Rattle.pages.specs.Width.{Width};
 
 // The root's words at virtual page v: "it maps exactly the flat pages, with all rights". There are t threes and `flat` flat pages.

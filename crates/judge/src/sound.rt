@@ -1,12 +1,12 @@
 // The judgement of a memory, whole.
-use crate::marks::mark_outside;
 use crate::root::root_test;
 use crate::tree::tree_test;
 use crate::tree::under;
-use forms::header_test;
+use header::header_test;
 use pages::current;
 use pages::pages;
 use pages::width;
+use tally::mark_outside;
 ghost use mathlib.Core.Path.{_≡_};
 ghost use mathlib.Core.Bool.{true};
 ghost use lib.ListN.{replicate};
@@ -14,7 +14,7 @@ ghost use Rattle.memory.specs.Edition;
 ghost use Rattle.memory.specs.Partition;
 ghost use Rattle.soundness.specs.Test.{headerTest, soundTest};
 ghost use Rattle.judging.specs.Quick.{quickTest};
-ghost use Rattle.judge.specs.Bits.{wordsFor};
+ghost use Rattle.tally.specs.Bits.{wordsFor};
 ghost use Rattle.pages.specs.Width.{Width};
 
 // The rest of the judgement, once the header has passed. seen has a bit for each page, all 0.

@@ -4,7 +4,7 @@ use crate::children::child_at;
 use crate::children::child_of;
 use crate::cycle::judge_children;
 use crate::partitions::judge_alone;
-use forms::virtual_address;
+use own_pages::virtual_address;
 use pages::PhysicalPage;
 use pages::parent;
 use pages::read_word;
@@ -22,7 +22,7 @@ ghost use Rattle.memory.specs.Counts.{children};
 ghost use Rattle.soundness.specs.Test;
 ghost use Rattle.soundness.specs.Test.{own, judged};
 ghost use Rattle.judging.specs.Quick.{partitionTest};
-ghost use Rattle.judge.specs.Bits.{marksIn, OutsideMarked};
+ghost use Rattle.tally.specs.Bits.{marksIn, OutsideMarked};
 ghost use Rattle.pages.specs.Width.{Width};
 
 // Each page from 1 on has its mark. Page 0 has none, so that its bit is passed over.

@@ -1,4 +1,2 @@
 pub mod Twice
 pub mod Create
-pub mod Delete
-pub mod Few

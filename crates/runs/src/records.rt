@@ -1,16 +1,12 @@
 // The verdict of a memory, and its start-up record, written and read: a record of 76 bytes, and one with a byte too few.
-use crate::hash::hash_bytes;
 use libc::STDOUT_FILENO;
+use stdio::hash_bytes;
+use stdio::print_refusal;
+use stdio::print_verdict;
 
 fn print_number(x: u32) {
     io::write_all(STDOUT_FILENO, b" ");
     io::print_decimal(STDOUT_FILENO, x as u64);
-}
-
-// The refusal's number of a packed answer, or 0.
-fn print_refusal(x: u64) {
-    io::write_all(STDOUT_FILENO, b" ");
-    io::print_decimal(STDOUT_FILENO, x / 4294967296);
 }
 
 // The length and the hash of the part that is the revision.
@@ -34,14 +30,8 @@ fn print_record(m: &[u32], out: &mut [u8]) {
     io::write_all(STDOUT_FILENO, b"\n");
 }
 
-fn print_verdict(m: &[u32]) {
-    io::write_all(STDOUT_FILENO, b"verdict");
-    print_refusal(answers::pack(kernel::verdict(m)));
-    io::write_all(STDOUT_FILENO, b"\n");
-}
-
 pub fn print_records(m: &[u32]) {
-    print_verdict(m);
+    print_verdict(answers::pack(kernel::verdict(m)));
     let mut out = [0u8; 76];
     print_record(m, &mut out);
     let mut short = [0u8; 75];

@@ -1,71 +1,29 @@
 // The parts of a memory's sequence, run in turn.
-use crate::hash::hash;
 use crate::records::print_records;
-use libc::STDOUT_FILENO;
-ghost use Prim.Native.Nat.{_≤_};
+use stdio::NONE;
+use stdio::next_count;
+use stdio::next_part;
+use stdio::print_part;
 
-// A number of an answer: "ok" and the word, or "no" and the refusal's number.
-fn print_answer(x: u64) {
-    if x < 4294967296 {
-        io::write_all(STDOUT_FILENO, b"ok ");
-        io::print_decimal(STDOUT_FILENO, x);
-    } else {
-        io::write_all(STDOUT_FILENO, b"no ");
-        io::print_decimal(STDOUT_FILENO, x / 4294967296);
-    }
-    io::write_all(STDOUT_FILENO, b"\n");
-}
-
-// A number that is no answer.
-const NONE: u64 = 0xFFFF_FFFF_FFFF_FFFF;
-
-// The numbers of the answers, up to the first that no call wrote.
-fn print_answers(answers: &[u64]) {
-    let mut i = 0;
-    while i < answers.len() {
-        if answers[i] == NONE {
-            return;
-        }
-        print_answer(answers[i]);
-        i += 1;
-    }
-}
-
-// Runs the calls, as many as there is room for answers, and prints these and the memory's hash.
-fn run_calls(m: &mut [u32], calls: &[u32]) {
-    let mut answers = [NONE; 64];
-    kernel::run(m, calls, &mut answers);
-    print_answers(&answers);
-    io::print_decimal(STDOUT_FILENO, hash(m) as u64);
-    io::write_all(STDOUT_FILENO, b"\n");
-}
-
-// The calls that fill the part.
-fn run_next(m: &mut [u32], part: &mut [u32]) {
-    input::next_words(part);
-    run_calls(m, part);
-}
-
-// A part of n words.
-fn run_part(m: &mut [u32], n: u32)
-    requires { ⌜ n ≤ 64 ⌝ }
-{
+// The next part: runs its calls, as many as there is room for answers, and prints these and the memory's hash. Answers how many words it has, 0 at the end.
+fn run_part(m: &mut [u32]) -> usize {
     let mut words = [0u32; 64];
-    let end = n as usize;
-    run_next(m, &mut words[0..end]);
+    let n = next_part(&mut words);
+    if n == 0 {
+        return 0;
+    }
+    let mut answers = [NONE; 64];
+    kernel::run(m, &words[0..n], &mut answers);
+    print_part(&answers, m);
+    n
 }
 
 // At most 65,536 parts.
 fn run_parts(m: &mut [u32]) {
     for _k in 0u32..65536 {
-        let n = input::next_word();
-        if n == 0 {
+        if run_part(m) == 0 {
             return;
         }
-        if 64 < n {
-            return;
-        }
-        run_part(m, n);
     }
 }
 
@@ -75,11 +33,13 @@ fn run_all(m: &mut [u32]) {
     print_records(m);
 }
 
-// A memory of n words.
-pub fn run_memory(n: u32)
-    requires { ⌜ n ≤ 20480 ⌝ }
-{
+// The next memory, of at most 20,480 words. Answers how many it has, 0 at the end.
+pub fn run_memory() -> usize {
+    let n = next_count(20480);
+    if n == 0 {
+        return 0;
+    }
     let mut m = [7u32; 20480];
-    let end = n as usize;
-    run_all(&mut m[0..end]);
+    run_all(&mut m[0..n]);
+    n
 }

@@ -1,7 +1,7 @@
 // Judges memories: of each it says whether it is sound or damaged. The input is little-endian words, for each memory its number of pages, how many of
 // its words are not 0, and index and value of each.
-use input::next_word;
 use libc::STDOUT_FILENO;
+use stdio::next_word;
 ghost use Prim.Native.Nat.{_≤_};
 
 // The words that are not 0.

@@ -17,11 +17,11 @@ use Rattle.memory.specs.Geometry.{pageWords}
 use Rattle.memory.specs.Words.{word}
 use Rattle.memory.specs.Partition.{directory, list, threes}
 use Rattle.soundness.specs.Test.{stands}
-use Rattle.forms.specs.Asked.{links, listedAs, noTables, indexTest, indicesLeft, Skipped, First, Sole}
-use Rattle.forms.specs.Named.{WordsAt}
-use Rattle.forms.proofs.Laws.Tests.{and-fst, and-snd, fails}
-use Rattle.forms.proofs.Laws.Loops.{from-start, all-go-on, all-end, all-at, all-same, found-next, found-end}
-use Rattle.forms.proofs.Laws.Asked.{no-tables, index-wrong, index-none, index-some}
+use Rattle.own_pages.specs.Asked.{links, listedAs, noTables, indexTest, indicesLeft, Skipped, First, Sole}
+use Rattle.own_pages.specs.Named.{WordsAt}
+use Rattle.own_pages.proofs.Laws.Tests.{and-fst, and-snd, fails}
+use Rattle.own_pages.proofs.Laws.Loops.{from-start, all-go-on, all-end, all-at, all-same, found-next, found-end}
+use Rattle.own_pages.proofs.Laws.Asked.{no-tables, index-wrong, index-none, index-some}
 
 -- ---- the one place below n at which f holds, by the first at which it holds and the next
 

@@ -13,9 +13,9 @@ use Rattle.memory.specs.Geometry.{pageWords, address, pageOf, mostThrees}
 use Rattle.memory.specs.Words.{word}
 use Rattle.memory.specs.Partition.{pages, directory, list, threes}
 use Rattle.soundness.specs.Test.{virtual, physical, descriptorTest, directoryTest, listTest, stands, threesTest, agrees, childTest, shutAt, kernelShut}
-use Rattle.forms.specs.Asked.{indexTest, pairForm, pairShut}
-use Rattle.forms.proofs.Laws.Tests.{and-false, and-fst, and-snd}
-use Rattle.forms.proofs.Laws.Loops.{all-at, all-same, all-join}
+use Rattle.own_pages.specs.Asked.{indexTest, pairForm, pairShut}
+use Rattle.own_pages.proofs.Laws.Tests.{and-false, and-fst, and-snd}
+use Rattle.own_pages.proofs.Laws.Loops.{all-at, all-same, all-join}
 
 -- the words of page p are 0 from k on
 pub zero-as : (b : ℕ) (m : List ℕ) {r : Bool} {p q k l : ℕ} → p ≡ q → k ≡ l

@@ -8,11 +8,11 @@ use lib.Dec.{leb, eqb}
 use lib.ListN.{getD}
 use borrow.Author.Tests.{lt-leb}
 use Rattle.walk.specs.Finite.{from, all}
-use Rattle.forms.proofs.Laws.Tests.{yes, no, and-false, and-fst, and-snd, fails}
-use Rattle.forms.proofs.Laws.Loops.{all-at, all-yes}
-use Rattle.judge.specs.Run.{run, asking}
-use Rattle.judge.specs.Rows.{rootWords}
-use Rattle.judge.proofs.Laws.Run.{all-run, run-skip}
+use Rattle.own_pages.proofs.Laws.Tests.{yes, no, and-false, and-fst, and-snd, fails}
+use Rattle.own_pages.proofs.Laws.Loops.{all-at, all-yes}
+use Rattle.tally.specs.Run.{run, asking}
+use Rattle.tally.specs.Rows.{rootWords}
+use Rattle.tally.proofs.Laws.Run.{all-run, run-skip}
 
 abbrev zero : List ℕ → ℕ → Bool
 zero m j = eqb (getD m j 0) 0

@@ -5,7 +5,7 @@ use Prim.Native.Nat.{ℕ}
 use lib.Dec.{eqb}
 use lib.Bits.{bitOr, bitXor}
 use borrow.Author.Tests.{eqb-true, eq-eqb}
-use Rattle.forms.proofs.Laws.Tests.{and-assoc, same-test}
+use Rattle.own_pages.proofs.Laws.Tests.{and-assoc, same-test}
 use Rattle.memory.specs.Geometry.{address, pageOf}
 use Rattle.memory.specs.Entry.{accessible, rights, holds}
 use Rattle.memory.proofs.Geometry.{page-address}

@@ -18,7 +18,7 @@ use Rattle.memory.proofs.Widths.{words-most}
 use Rattle.soundness.specs.Test.{headerTest, judged, soundTest}
 use Rattle.judging.specs.Quick.{quickTest}
 use Rattle.judging.proofs.Exact.{quick-exact}
-use Rattle.forms.proofs.Laws.Tests.{and-false}
+use Rattle.own_pages.proofs.Laws.Tests.{and-false}
 
 take-zeros : (n k : ℕ) → n ≤ k → take n (replicate {A = ℕ} k 0) ≡ replicate n 0
 take-zeros zero k h = refl

@@ -15,8 +15,8 @@ use Rattle.memory.specs.Counts.{childAt}
 use Rattle.memory.proofs.Tables.{tableWord-absent}
 use Rattle.soundness.specs.Test.{virtual, childTest, kernelShut}
 use Rattle.judging.specs.Quick.{entryTest}
-use Rattle.forms.proofs.Laws.Tests.{and-false}
-use Rattle.judge.specs.Rows.{belowWords, lentWord, Passed, shadow1Word, cellWords, lastWord}
+use Rattle.own_pages.proofs.Laws.Tests.{and-false}
+use Rattle.tally.specs.Rows.{belowWords, lentWord, Passed, shadow1Word, cellWords, lastWord}
 
 -- the word of address x that the code read under a root that it had looked up
 pub word-under : (b : ℕ) (m : List ℕ) {root r v u : ℕ} (x : ℕ) → u ≡ tableWord b m r v → r ≡ root → v ≡ pageOf b x → u ≡ tableWord b m root (pageOf b x)

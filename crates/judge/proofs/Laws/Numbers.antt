@@ -8,7 +8,7 @@ use lib.Pow.{pow-mono}
 use Rattle.memory.specs.Geometry.{pageWords, address}
 use Rattle.memory.proofs.Geometry.{bytes-pos, addressEnd-is}
 use Rattle.memory.proofs.Widths.{words-most}
-use Rattle.judge.specs.Rows.{virtualPages}
+use Rattle.tally.specs.Rows.{virtualPages}
 
 module _ (b : ℕ) (h : b ≤ 10) where
   pub most-pages : virtualPages b ≤ 1048576

@@ -12,7 +12,7 @@ use Rattle.memory.specs.Counts.{tabled}
 use Rattle.soundness.specs.Test.{descriptorTest, directoryTest, listTest, threesTest}
 use Rattle.judging.specs.Quick.{cell, shutCount, dueCount, rising, lentCount, mappedCount, partitionTest}
 use Rattle.judge.specs.Alone.{aloneTest, cellsTest}
-use Rattle.forms.proofs.Laws.Tests.{yes, no, and-false}
+use Rattle.own_pages.proofs.Laws.Tests.{yes, no, and-false}
 use Rattle.forms.proofs.Laws.Whole.{list-few}
 
 last : (f c p q r : Bool) → f && c && p && q && r ≡ f && (p && q) && (c && r)

@@ -14,10 +14,10 @@ use borrow.Author.Tests.{eqb-true, eq-eqb}
 use Rattle.walk.specs.Finite.{from, all}
 use Rattle.walk.specs.Marks.{Seen, andThen, andThen-is, andThen-assoc, andThen-ext, each, mark, marks, mark-is, mark-zero, mark-out, mark-taken}
 use Rattle.walk.specs.Walk as W
-use Rattle.forms.proofs.Laws.Tests.{same-test}
-use Rattle.forms.proofs.Laws.Loops.{all-at, all-yes}
-use Rattle.judge.specs.Bits.{marksIn, OutsideMarked}
-use Rattle.judge.proofs.Laws.Bits.{length-marks, allMarked}
+use Rattle.own_pages.proofs.Laws.Tests.{same-test}
+use Rattle.own_pages.proofs.Laws.Loops.{all-at, all-yes}
+use Rattle.tally.specs.Bits.{marksIn, OutsideMarked}
+use Rattle.tally.proofs.Laws.Bits.{length-marks, allMarked}
 
 -- r are those marks
 module _ (r : List ℕ) (taken : (i : ℕ) → i < length r → getD r i 0 ≢ 0) where

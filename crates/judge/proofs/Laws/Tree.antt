@@ -18,7 +18,7 @@ use Rattle.soundness.specs.Test.{virtual, own, placed, under}
 use Rattle.judging.specs.Quick.{dueCount, mappedCount, partitionTest}
 use Rattle.judge.specs.Alone.{aloneTest, cellsTest}
 use Rattle.judge.proofs.Laws.Order.{partition-as}
-use Rattle.forms.proofs.Laws.Tests.{yes, no, and-false}
+use Rattle.own_pages.proofs.Laws.Tests.{yes, no, and-false}
 
 none-summed : (f : ℕ → ℕ) (l : List ℕ) → sumOf (λ c. 5 + f c) l ≡ 0 → l ≡ []
 unfolding sumOf

@@ -13,17 +13,11 @@ abbrev μ-loop : tie.MeasureT-loop
 loop-holds : tie.Need-loop-holds Inv-loop μ-loop
 loop-holds c = search needs
 
-next-word-requires : tie.Need-next-word-requires Inv-loop μ-loop
-next-word-requires c κs = search needs
+run-memory-requires : tie.Need-run-memory-requires Inv-loop μ-loop
+run-memory-requires c κs = search needs
 
 returns : tie.Need-returns Inv-loop μ-loop
 returns c = search needs
-
-returns-2 : tie.Need-returns-2 Inv-loop μ-loop
-returns-2 c = search needs
-
-run-memory-requires : tie.Need-run-memory-requires Inv-loop μ-loop
-run-memory-requires c κs = search needs
 
 add--k : tie.Need-add--k Inv-loop μ-loop
 add--k c = search needs
@@ -34,8 +28,8 @@ loop-less c = search needs
 loop-again : tie.Need-loop-again Inv-loop μ-loop
 loop-again c = search needs
 
-returns-3 : tie.Need-returns-3 Inv-loop μ-loop
-returns-3 c = search needs
+returns-2 : tie.Need-returns-2 Inv-loop μ-loop
+returns-2 c = search needs
 
 pub main-spec : {M : Type 1} → statement M
 main-spec =
@@ -44,11 +38,9 @@ main-spec =
     Inv-loop
     μ-loop
     loop-holds
-    next-word-requires
-    returns
-    returns-2
     run-memory-requires
+    returns
     add--k
     loop-less
     loop-again
-    returns-3)
+    returns-2)

@@ -1,4 +1,4 @@
--- `block_making::deleting::delete` meets its contract: where nothing is refused the memory is sound, so that the table is short. Assumes nothing.
+-- `block_making::deleting::delete` meets its contract: where nothing is refused the memory is sound and the caller a partition. Assumes nothing.
 use mathlib.Core.Path.{refl}
 use borrow.Author.Needs.{needs}
 use Rattle.block_rules.specs.Call.{serve, delete}
@@ -6,7 +6,7 @@ use Rattle.block_rules.specs.Refusals.{refusals, refusalsOf}
 use Rattle.block_rules.specs.Effects.{effectOf}
 use Rattle.block_rules.specs.Calls.{resultOf}
 use Rattle.block_moves.proofs.Whole.{refused, served}
-use Rattle.block_making.proofs.Making.{short}
+use Rattle.block_making.proofs.Making.{passed-sound, passed-partition}
 use Rattle.block_making.proofs.deleting.delete.Statement.{statement}
 use Rattle.block_making.proofs.deleting.delete.Tie as tie
 
@@ -33,7 +33,9 @@ delete-effect-requires : tie.Need-delete-effect-requires
 unfolding refusals refusalsOf
 delete-effect-requires c κs =
     let s = c .before .before .before .before .before .before .before .args in
-    short (s .m .now) (delete (s .c)) (c .before .before .before .before .child-refusal .ensures .0) (c .before .before .before .if1 .left)
+    let e = c .before .before .before .before .child-refusal .ensures .0 in
+    let z = c .before .before .before .if1 .left in
+    (passed-sound (s .m .now) (delete (s .c)) e z, passed-partition (s .m .now) (delete (s .c)) e z (c .before .current .ensures))
 
 reply-requires-2 : tie.Need-reply-requires-2
 reply-requires-2 c κs = search needs

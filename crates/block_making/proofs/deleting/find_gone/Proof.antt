@@ -1,69 +1,65 @@
--- `block_making::deleting::find_gone` meets its contract: as many places are filled as were passed. Assumes nothing.
-use mathlib.Core.Path.{_≡_, ap, _∙_}
-use mathlib.Core.List.{List}
-use Prim.Native.Nat.{ℕ, _+_, _-_, _≤_, _<_}
+-- `block_making::deleting::find_gone` meets its contract: the blocks that are left mark what all mark. Assumes nothing.
+use mathlib.Core.Path.{_≡_, refl, ap, _∙_}
+use Prim.Native.Nat.{ℕ, _-_, _<_}
 use native.Mathlib.Omega.{arith}
-use lib.ListN.{length, length-set}
+use lib.ListN.{length, getD}
 use borrow.Author.Needs.{needs}
-use Rattle.block_memory.specs.Words.{word}
-use Rattle.block_making.specs.Deleting
-use Rattle.block_making.specs.Deleting.{marked}
-use Rattle.block_making.proofs.Turns.{filled, fill-none, fill-more, fill-all}
+use Rattle.block_making.proofs.Places.{still, still-next, still-none, all-marked}
 use Rattle.block_making.proofs.deleting.find_gone.Statement.{statement}
 use Rattle.block_making.proofs.deleting.find_gone.Tie as tie
 
--- what place j gets
-abbrev mark : List ℕ → ℕ → ℕ → ℕ → ℕ
-mark m d c j = marked (Deleting.goes m d c) (word m (8 + j))
-
 abbrev Inv-loop : tie.InvT-loop
-Inv-loop m d c out₀ j₀ out j = (out ≡ filled (mark m d c) 0 out₀ j) × (j ≤ length out₀) × (length out ≡ length out₀)
+Inv-loop m d ns out₀ i₀ out i =
+    (length out ≡ length out₀) × ((j : ℕ) → j < length out₀ → still m d ns i j (getD out j 0) ≡ still m d ns 0 j 0)
 
 abbrev μ-loop : tie.MeasureT-loop
-μ-loop m d c out₀ j₀ out j = length out₀ - j
+μ-loop m d ns out₀ i₀ out i = length ns - i
 
 loop-holds : tie.Need-loop-holds Inv-loop μ-loop
-loop-holds c = let s = c .before .before .args in (fill-none (mark (s .m .now) (s .d) (s .c)) 0 (s .out .now), search needs, search needs)
+loop-holds c =
+    let s = c .before .before .before in (refl, λ j l. ap (still (s .args .m .now) (s .args .d) (s .args .ns .now) 0 j) (s .pre .2 j))
 
-add-read : tie.Need-add-read Inv-loop μ-loop
-add-read c = search needs
+mul-n : tie.Need-mul-n Inv-loop μ-loop
+mul-n c = search needs
 
-read-requires : tie.Need-read-requires Inv-loop μ-loop
-read-requires c κs = search needs
+shared-slice-read-n : tie.Need-shared-slice-read-n Inv-loop μ-loop
+shared-slice-read-n c = search needs
 
-goes-requires : tie.Need-goes-requires Inv-loop μ-loop
-goes-requires c κs = search needs
+start-requires : tie.Need-start-requires Inv-loop μ-loop
+start-requires c κs = search needs
 
-mul-out : tie.Need-mul-out Inv-loop μ-loop
-mul-out c = search needs
+end-requires : tie.Need-end-requires Inv-loop μ-loop
+end-requires c κs = search needs
 
-slice-write-out : tie.Need-slice-write-out Inv-loop μ-loop
-slice-write-out c = search needs
+mark-block-requires : tie.Need-mark-block-requires Inv-loop μ-loop
+mark-block-requires c κs = let s = c .before .before .before .before .before .before .before .before .before in (s .pre .0, omega arith)
 
-add-j : tie.Need-add-j Inv-loop μ-loop
-add-j c = search needs
+add-i : tie.Need-add-i Inv-loop μ-loop
+add-i c = search needs
 
 loop-less : tie.Need-loop-less Inv-loop μ-loop
 loop-less c = search needs
 
 loop-again : tie.Need-loop-again Inv-loop μ-loop
 loop-again c =
-    let s = c .before .before .before .before .before .before .args in
-    let p = c .before .before .before .loop in
-    let f = mark (s .m .now) (s .d) (s .c) in
-    let h : p .j < length (s .out .now) = omega arith in
-    let z : p .j ≡ 0 + p .j = omega arith in
-    let e = c .goes .ensures ∙ ap (marked (Deleting.goes (s .m .now) (s .d) (s .c))) (c .before .read .ensures) ∙ ap f z in
-    (fill-more f 0 (p .j) (s .out .now) h (p .inv .0) e, omega arith, length-set (p .out) (p .j) (c .goes .result) ∙ p .inv .2)
+    let s = c .before .before .before .before .before .before .before .before .before .before .before .before .args in
+    let p = c .before .before .before .before .before .before .before .before .loop in
+    let b = c .before .before .mark-block in
+    let bytes = c .before .before .before .before in
+    let now = b .last .1 .1 .1 .0 in
+    let e =
+    still-next (s .m .now) (s .d) (s .ns .now) (p .out) now (p .i) (omega arith) refl (bytes .before .start .ensures) (bytes .end .ensures) (b .ensures) in
+    (omega arith, λ j l. e j (omega arith) ∙ p .inv .1 j l)
 
 same-length : tie.Need-same-length Inv-loop μ-loop
 same-length c = search needs
 
 returns : tie.Need-returns Inv-loop μ-loop
 returns c =
-    let s = c .before .before .before .before .args in
+    let s = c .before .before .before .before .before .args in
     let p = c .before .loop in
-    fill-all (mark (s .m .now) (s .d) (s .c)) 0 (p .j) (s .out .now) (omega arith) (p .inv .0)
+    all-marked (s .m .now) (s .d) (s .ns .now) (p .out) (length (s .out .now)) (p .inv .0)
+    (λ j l. still-none (s .m .now) (s .d) (s .ns .now) (p .i) j (getD (p .out) j 0) (omega arith) ∙ p .inv .1 j l)
 
 pub find-gone-spec : {M : Type 1} → statement M
 find-gone-spec =
@@ -72,12 +68,12 @@ find-gone-spec =
     Inv-loop
     μ-loop
     loop-holds
-    add-read
-    read-requires
-    goes-requires
-    mul-out
-    slice-write-out
-    add-j
+    mul-n
+    shared-slice-read-n
+    start-requires
+    end-requires
+    mark-block-requires
+    add-i
     loop-less
     loop-again
     same-length

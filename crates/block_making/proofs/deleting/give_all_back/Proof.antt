@@ -7,14 +7,12 @@ use lib.ListN.{length, drop}
 use borrow.Author.Needs.{needs}
 use Rattle.block_memory.specs.Words.{over}
 use Rattle.block_rules.specs.Effects.{giveBack}
-use Rattle.block_making.specs.Deleting.{passing}
 use Rattle.block_making.proofs.Turns.{turn, last-turn}
 use Rattle.block_making.proofs.deleting.give_all_back.Statement.{statement}
 use Rattle.block_making.proofs.deleting.give_all_back.Tie as tie
 
 abbrev Inv-loop : tie.InvT-loop
-Inv-loop m₀ d ns i₀ m i =
-    (over (passing (λ w n. giveBack w d n)) m (drop i ns) ≡ over (passing (λ w n. giveBack w d n)) m₀ ns) × (length m ≡ length m₀)
+Inv-loop m₀ d ns i₀ m i = (over (λ w n. giveBack w d n) m (drop i ns) ≡ over (λ w n. giveBack w d n) m₀ ns) × (length m ≡ length m₀)
 
 abbrev μ-loop : tie.MeasureT-loop
 μ-loop m₀ d ns i₀ m i = length ns - i
@@ -22,14 +20,14 @@ abbrev μ-loop : tie.MeasureT-loop
 loop-holds : tie.Need-loop-holds Inv-loop μ-loop
 loop-holds c = (refl, refl)
 
-mul-give-unless-0 : tie.Need-mul-give-unless-0 Inv-loop μ-loop
-mul-give-unless-0 c = search needs
+mul-give-back : tie.Need-mul-give-back Inv-loop μ-loop
+mul-give-back c = search needs
 
-shared-slice-read-give-unless-0 : tie.Need-shared-slice-read-give-unless-0 Inv-loop μ-loop
-shared-slice-read-give-unless-0 c = search needs
+shared-slice-read-give-back : tie.Need-shared-slice-read-give-back Inv-loop μ-loop
+shared-slice-read-give-back c = search needs
 
-give-unless-0-requires : tie.Need-give-unless-0-requires Inv-loop μ-loop
-give-unless-0-requires c κs = search needs
+give-back-requires : tie.Need-give-back-requires Inv-loop μ-loop
+give-back-requires c κs = search needs
 
 add-i : tie.Need-add-i Inv-loop μ-loop
 add-i c = search needs
@@ -41,8 +39,8 @@ loop-again : tie.Need-loop-again Inv-loop μ-loop
 loop-again c =
     let s = c .before .before .before .before .before .before .before .before .before .args in
     let p = c .before .before .before .before .before .before .loop in
-    let f : List ℕ → ℕ → List ℕ = passing (λ w n. giveBack w (s .d) n) in
-    let e = ap (λ (w : List ℕ). over f w (drop (p .i + 1) (s .ns .now))) (c .before .before .give-unless-0 .ensures) in
+    let f : List ℕ → ℕ → List ℕ = λ w n. giveBack w (s .d) n in
+    let e = ap (λ (w : List ℕ). over f w (drop (p .i + 1) (s .ns .now))) (c .before .before .give-back .ensures) in
     (e ∙ turn f (p .m) (s .ns .now) (p .i) (omega arith) ∙ p .inv .0, omega arith)
 
 same-length : tie.Need-same-length Inv-loop μ-loop
@@ -52,7 +50,7 @@ returns : tie.Need-returns Inv-loop μ-loop
 returns c =
     let s = c .before .before .before .before .args in
     let p = c .before .loop in
-    last-turn (passing (λ w n. giveBack w (s .d) n)) (p .m) (s .ns .now) (p .i) (omega arith) ∙ p .inv .0
+    last-turn (λ w n. giveBack w (s .d) n) (p .m) (s .ns .now) (p .i) (omega arith) ∙ p .inv .0
 
 pub give-all-back-spec : {M : Type 1} → statement M
 give-all-back-spec =
@@ -61,9 +59,9 @@ give-all-back-spec =
     Inv-loop
     μ-loop
     loop-holds
-    mul-give-unless-0
-    shared-slice-read-give-unless-0
-    give-unless-0-requires
+    mul-give-back
+    shared-slice-read-give-back
+    give-back-requires
     add-i
     loop-less
     loop-again

@@ -7,8 +7,8 @@ use borrow.Author.Tests.{le-leb, lt-leb}
 use Rattle.walk.specs.Finite.{from, all}
 use Rattle.memory.specs.Geometry.{mostThrees}
 use Rattle.memory.specs.Partition.{list, threes}
-use Rattle.forms.specs.Asked.{pairShut}
-use Rattle.forms.proofs.Laws.Tests.{yes, no}
+use Rattle.own_pages.specs.Asked.{pairShut}
+use Rattle.own_pages.proofs.Laws.Tests.{yes, no}
 use Rattle.forms.proofs.Laws.Whole.{child-as}
 use Rattle.forms.proofs.children.child_forms.Statement.{statement}
 use Rattle.forms.proofs.children.child_forms.Tie as tie

@@ -4,7 +4,7 @@ use Prim.Native.Nat.{ℕ}
 use lib.Dec.{eqb}
 use borrow.Author.Needs.{needs}
 use Rattle.memory.specs.Geometry.{address}
-use Rattle.forms.proofs.Laws.Tests.{yes, no, equal, unequal}
+use Rattle.own_pages.proofs.Laws.Tests.{yes, no, equal, unequal}
 use Rattle.forms.proofs.children.child_names.Statement.{statement}
 use Rattle.forms.proofs.children.child_names.Tie as tie
 

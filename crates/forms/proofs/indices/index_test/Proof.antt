@@ -3,7 +3,7 @@ use Prim.Native.Nat.{_<_}
 use native.Mathlib.Omega.{arith}
 use borrow.Author.Needs.{needs}
 use Rattle.memory.specs.Partition.{threes}
-use Rattle.forms.proofs.Laws.Tests.{yes, no}
+use Rattle.own_pages.proofs.Laws.Tests.{yes, no}
 use Rattle.forms.proofs.Laws.Met.{met-wrong, met-none, met-unlisted, met-twice, met-first}
 use Rattle.forms.proofs.indices.index_test.Statement.{statement}
 use Rattle.forms.proofs.indices.index_test.Tie as tie

@@ -8,7 +8,7 @@ use borrow.Author.Tests.{not-true, not-false}
 use borrow.Author.Needs.{needs}
 use Rattle.walk.specs.Finite.{from, all}
 use Rattle.memory.specs.Geometry.{pageWords}
-use Rattle.forms.specs.Asked.{indicesLeft}
+use Rattle.own_pages.specs.Asked.{indicesLeft}
 use Rattle.forms.proofs.Laws.Met.{left-start, left-skip, left-end}
 use Rattle.forms.proofs.Laws.Whole.{list-few}
 use Rattle.forms.proofs.indices.indices_test.Statement.{statement}

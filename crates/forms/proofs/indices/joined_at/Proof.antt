@@ -1,6 +1,6 @@
 -- `forms::indices::joined_at` meets its contract. Assumes nothing.
 use borrow.Author.Needs.{needs}
-use Rattle.forms.proofs.Laws.Asked.{joined-as}
+use Rattle.own_pages.proofs.Laws.Asked.{joined-as}
 use Rattle.forms.proofs.indices.joined_at.Statement.{statement}
 use Rattle.forms.proofs.indices.joined_at.Tie as tie
 

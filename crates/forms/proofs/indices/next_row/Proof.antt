@@ -2,9 +2,9 @@
 use Prim.Native.Nat.{_-_}
 use native.Mathlib.Omega.{arith}
 use borrow.Author.Needs.{needs}
-use Rattle.forms.specs.Asked.{Skipped}
-use Rattle.forms.proofs.Laws.Asked.{skip-none, skip-by}
-use Rattle.forms.proofs.Laws.Tests.{yes}
+use Rattle.own_pages.specs.Asked.{Skipped}
+use Rattle.own_pages.proofs.Laws.Asked.{skip-none, skip-by}
+use Rattle.own_pages.proofs.Laws.Tests.{yes}
 use Rattle.forms.proofs.indices.next_row.Statement.{statement}
 use Rattle.forms.proofs.indices.next_row.Tie as tie
 

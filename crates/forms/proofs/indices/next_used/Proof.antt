@@ -4,8 +4,8 @@ use Prim.Native.Nat.{_-_}
 use native.Mathlib.Omega.{arith}
 use borrow.Author.Tests.{eq-eqb}
 use borrow.Author.Needs.{needs}
-use Rattle.forms.specs.Asked.{Skipped}
-use Rattle.forms.proofs.Laws.Asked.{skip-one}
+use Rattle.own_pages.specs.Asked.{Skipped}
+use Rattle.own_pages.proofs.Laws.Asked.{skip-one}
 use Rattle.forms.proofs.indices.next_used.Statement.{statement}
 use Rattle.forms.proofs.indices.next_used.Tie as tie
 

@@ -7,9 +7,9 @@ use lib.Dec.{eqb}
 use borrow.Author.Needs.{needs}
 use Rattle.walk.specs.Finite.{from, all}
 use Rattle.memory.proofs.Widths.{words-most}
-use Rattle.forms.specs.Asked.{noTables}
-use Rattle.forms.proofs.Laws.Loops.{all-end}
-use Rattle.forms.proofs.Laws.Runs.{join-more, join-end}
+use Rattle.own_pages.specs.Asked.{noTables}
+use Rattle.own_pages.proofs.Laws.Loops.{all-end}
+use Rattle.own_pages.proofs.Laws.Runs.{join-more, join-end}
 use Rattle.forms.proofs.indices.row_empty.Statement.{statement}
 use Rattle.forms.proofs.indices.row_empty.Tie as tie
 

@@ -2,7 +2,7 @@
 use mathlib.Core.Path.{refl, ap, _∙_}
 use borrow.Author.Needs.{needs}
 use Rattle.soundness.specs.Test.{physical, descriptorTest}
-use Rattle.forms.proofs.Laws.Tests.{yes, no, equal, unequal, within, beyond}
+use Rattle.own_pages.proofs.Laws.Tests.{yes, no, equal, unequal, within, beyond}
 use Rattle.forms.proofs.Laws.Whole.{descriptor-pairs}
 use Rattle.forms.proofs.partitions.descriptor_test.Statement.{statement}
 use Rattle.forms.proofs.partitions.descriptor_test.Tie as tie

@@ -7,8 +7,8 @@ use Rattle.walk.specs.Finite.{from, all, once}
 use Rattle.memory.specs.Geometry.{pageWords}
 use Rattle.memory.specs.Partition.{threes}
 use Rattle.soundness.specs.Test.{listTest, stands}
-use Rattle.forms.specs.Asked.{indexTest}
-use Rattle.forms.proofs.Laws.Tests.{yes, no}
+use Rattle.own_pages.specs.Asked.{indexTest}
+use Rattle.own_pages.proofs.Laws.Tests.{yes, no}
 use Rattle.forms.proofs.Laws.Whole.{forms-as}
 use Rattle.forms.proofs.partitions.forms_test.Statement.{statement}
 use Rattle.forms.proofs.partitions.forms_test.Tie as tie

@@ -7,7 +7,7 @@ use borrow.Author.Tests.{le-leb}
 use Rattle.memory.specs.Geometry.{mostThrees}
 use Rattle.memory.specs.Partition.{threes}
 use Rattle.soundness.specs.Test.{listTest}
-use Rattle.forms.proofs.Laws.Tests.{yes, no, equal, unequal}
+use Rattle.own_pages.proofs.Laws.Tests.{yes, no, equal, unequal}
 use Rattle.forms.proofs.Laws.Whole.{list-many, list-pairs, zero-as}
 use Rattle.forms.proofs.partitions.list_test.Statement.{statement}
 use Rattle.forms.proofs.partitions.list_test.Tie as tie

@@ -3,8 +3,8 @@ use mathlib.Core.Path.{refl, _∙_}
 use borrow.Author.Needs.{needs}
 use Rattle.memory.specs.Partition.{pages}
 use Rattle.judging.specs.Quick.{entryTest}
-use Rattle.forms.proofs.Laws.Tests.{unequal, equal, same-ltb}
-use Rattle.forms.proofs.Laws.Places.{page-below, entry-is, entry-not}
+use Rattle.own_pages.proofs.Laws.Tests.{unequal, equal, same-ltb}
+use Rattle.own_pages.proofs.Laws.Places.{page-below, entry-is, entry-not}
 use Rattle.forms.proofs.tables.entry_test.Statement.{statement}
 use Rattle.forms.proofs.tables.entry_test.Tie as tie
 

@@ -3,7 +3,7 @@ use mathlib.Core.Path.{refl, ap}
 use Prim.Native.Nat.{ℕ, _+_}
 use borrow.Author.Needs.{needs}
 use Rattle.soundness.specs.Test.{tableLink}
-use Rattle.forms.proofs.Laws.Tests.{unequal, equal}
+use Rattle.own_pages.proofs.Laws.Tests.{unequal, equal}
 use Rattle.forms.proofs.tables.table_link.Statement.{statement}
 use Rattle.forms.proofs.tables.table_link.Tie as tie
 

@@ -2,8 +2,8 @@
 use mathlib.Core.Path.{sym, _∙_}
 use borrow.Author.Tests.{eq-eqb, ne-eqb}
 use borrow.Author.Needs.{needs}
-use Rattle.forms.proofs.Laws.Asked.{links-none, links-some}
-use Rattle.forms.proofs.Laws.Tests.{yes, no, and-true, and-false}
+use Rattle.own_pages.proofs.Laws.Asked.{links-none, links-some}
+use Rattle.own_pages.proofs.Laws.Tests.{yes, no, and-true, and-false}
 use Rattle.forms.proofs.tables.three_links.Statement.{statement}
 use Rattle.forms.proofs.tables.three_links.Tie as tie
 

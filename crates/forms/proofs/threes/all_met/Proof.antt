@@ -8,7 +8,7 @@ use lib.Dec.{eqb}
 use borrow.Author.Tests.{eq-eqb, ne-eqb}
 use borrow.Author.Needs.{needs}
 use Rattle.walk.specs.Finite.{from, all}
-use Rattle.forms.proofs.Laws.Loops.{all-start, all-go, all-stop, all-end}
+use Rattle.own_pages.proofs.Laws.Loops.{all-start, all-go, all-stop, all-end}
 use Rattle.forms.proofs.threes.all_met.Statement.{statement}
 use Rattle.forms.proofs.threes.all_met.Tie as tie
 

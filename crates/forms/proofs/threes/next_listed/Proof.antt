@@ -4,9 +4,9 @@ use mathlib.Core.Path.{_≡_, sym, _∙_}
 use Prim.Native.Nat.{ℕ, _-_, _≤_, _<_}
 use native.Mathlib.Omega.{arith}
 use borrow.Author.Needs.{needs}
-use Rattle.forms.specs.Asked.{listedAs}
+use Rattle.own_pages.specs.Asked.{listedAs}
 use Rattle.forms.proofs.Laws.Met.{passed-more}
-use Rattle.forms.proofs.Laws.Asked.{listed-as}
+use Rattle.own_pages.proofs.Laws.Asked.{listed-as}
 use Rattle.forms.proofs.threes.next_listed.Statement.{statement}
 use Rattle.forms.proofs.threes.next_listed.Tie as tie
 

@@ -2,7 +2,7 @@
 use native.Mathlib.Omega.{arith}
 use borrow.Author.Needs.{needs}
 use Rattle.memory.specs.Partition.{threes}
-use Rattle.forms.specs.Asked.{listedAs}
+use Rattle.own_pages.specs.Asked.{listedAs}
 use Rattle.forms.proofs.Laws.Met.{sole-none, sole-two, sole-one}
 use Rattle.forms.proofs.threes.place.Statement.{statement}
 use Rattle.forms.proofs.threes.place.Tie as tie

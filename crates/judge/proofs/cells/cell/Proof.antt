@@ -1,13 +1,13 @@
 -- `judge::cells::cell` meets its contract. Assumes nothing.
-use Rattle.forms.proofs.Laws.Tests.{yes, no, unequal, equal}
+use Rattle.own_pages.proofs.Laws.Tests.{yes, no, unequal, equal}
 use mathlib.Core.Path.{_≡_, refl, ap, _∙_}
 use mathlib.Core.Bool.{Bool, true, _||_}
 use mathlib.Core.Logic.{inl, inr}
 use lib.Dec.{eqb}
 use Rattle.memory.specs.Geometry.{address}
-use Rattle.judge.specs.Rows.{shadow1Word}
+use Rattle.tally.specs.Rows.{shadow1Word}
 use Rattle.judge.proofs.Laws.Lent.{passed-same}
-use Rattle.judge.proofs.Laws.Sweeps.{from-lender}
+use Rattle.tally.proofs.Laws.Sweeps.{from-lender}
 use borrow.Author.Needs.{needs}
 use Rattle.judge.proofs.cells.cell.Statement.{statement}
 use Rattle.judge.proofs.cells.cell.Tie as tie

@@ -7,12 +7,12 @@ use mathlib.Core.Bool.{true, false≢true}
 use lib.ListN.{getD}
 use Rattle.walk.specs.Finite.{from}
 use Rattle.memory.specs.Geometry.{pageWords, address}
-use Rattle.judge.specs.Run.{run, asking}
-use Rattle.judge.specs.Rows.{Passed, cellWords}
+use Rattle.tally.specs.Run.{run, asking}
+use Rattle.tally.specs.Rows.{Passed, cellWords}
 use Rattle.judge.proofs.Laws.Numbers.{most-pages}
-use Rattle.judge.proofs.Laws.Run.{run-start, run-end, ask-next, ask-stop}
+use Rattle.tally.proofs.Laws.Run.{run-start, run-end, ask-next, ask-stop}
 use Rattle.judge.proofs.Laws.Lent.{passed-next}
-use Rattle.judge.proofs.Laws.Sweeps.{riseIn, cell-words, cells-past, rise-past, rise-next, rise-mapped, rise-unmapped}
+use Rattle.tally.proofs.Laws.Sweeps.{riseIn, cell-words, cells-past, rise-past, rise-next, rise-mapped, rise-unmapped}
 use borrow.Author.Needs.{needs}
 use Rattle.judge.proofs.cells.cells_row.Statement.{statement}
 use Rattle.judge.proofs.cells.cells_row.Tie as tie

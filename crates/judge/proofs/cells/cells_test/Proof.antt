@@ -15,15 +15,15 @@ use Rattle.memory.specs.Partition.{directory, parent}
 use Rattle.memory.specs.Partition as partition
 use Rattle.memory.specs.Counts.{tabled}
 use Rattle.memory.proofs.Widths.{words-most}
-use Rattle.judge.specs.Rows.{used}
+use Rattle.tally.specs.Rows.{used}
 use Rattle.judge.specs.Alone.{cellsTest}
 use Rattle.judge.proofs.Laws.Numbers.{most-pages, row-in}
-use Rattle.judge.proofs.Laws.Search.{next-low, next-high, next-here}
+use Rattle.tally.proofs.Laws.Search.{next-low, next-high, next-here}
 use Rattle.judging.specs.Quick as Quick
 use Rattle.judging.specs.Quick.{largest, cell, sources, rising, lentCount}
-use Rattle.judge.specs.Run.{run, asking}
-use Rattle.judge.proofs.Laws.Rows.{rowStep, rows-first, rows-next, rows-end, asks-next, asks-stop, dir-short}
-use Rattle.judge.proofs.Laws.Sweeps.{aboveAt, cells-run, cells-row, rise-run, rise-row}
+use Rattle.tally.specs.Run.{run, asking}
+use Rattle.tally.proofs.Laws.Rows.{rowStep, rows-first, rows-next, rows-end, asks-next, asks-stop, dir-short}
+use Rattle.tally.proofs.Laws.Sweeps.{aboveAt, cells-run, cells-row, rise-run, rise-row}
 use borrow.Author.Needs.{needs}
 use Rattle.judge.proofs.cells.cells_test.Statement.{statement}
 use Rattle.judge.proofs.cells.cells_test.Tie as tie

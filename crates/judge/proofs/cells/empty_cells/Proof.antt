@@ -1,5 +1,5 @@
 -- `judge::cells::empty_cells` meets its contract. Assumes nothing.
-use Rattle.forms.proofs.Laws.Tests.{yes, no}
+use Rattle.own_pages.proofs.Laws.Tests.{yes, no}
 use borrow.Author.Needs.{needs}
 use Rattle.judge.proofs.cells.empty_cells.Statement.{statement}
 use Rattle.judge.proofs.cells.empty_cells.Tie as tie

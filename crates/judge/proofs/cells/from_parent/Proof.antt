@@ -1,5 +1,5 @@
 -- `judge::cells::from_parent` meets its contract. Assumes nothing.
-use Rattle.forms.proofs.Laws.Tests.{unequal, equal, same-eqb}
+use Rattle.own_pages.proofs.Laws.Tests.{unequal, equal, same-eqb}
 use mathlib.Core.Path.{refl, sym, _∙_}
 use Rattle.judge.proofs.Laws.Lent.{word-under}
 use Rattle.judge.proofs.Laws.Joined.{same-mapping}

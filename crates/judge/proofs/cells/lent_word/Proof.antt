@@ -1,5 +1,5 @@
 -- `judge::cells::lent_word` meets its contract. Assumes nothing.
-use Rattle.forms.proofs.Laws.Tests.{yes, no, same-eqb}
+use Rattle.own_pages.proofs.Laws.Tests.{yes, no, same-eqb}
 use mathlib.Core.Path.{refl, sym, _∙_}
 use Rattle.judge.proofs.Laws.Lent.{word-under, lent-absent, lent-told}
 use borrow.Author.Needs.{needs}

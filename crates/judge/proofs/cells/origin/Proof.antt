@@ -1,5 +1,5 @@
 -- `judge::cells::origin` meets its contract. Assumes nothing.
-use Rattle.forms.proofs.Laws.Tests.{unequal, equal}
+use Rattle.own_pages.proofs.Laws.Tests.{unequal, equal}
 use mathlib.Core.Path.{refl, sym, ap, _∙_}
 use lib.Dec.{leb}
 use borrow.Author.Needs.{needs}

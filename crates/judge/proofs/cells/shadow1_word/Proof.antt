@@ -1,5 +1,5 @@
 -- `judge::cells::shadow1_word` meets its contract. Assumes nothing.
-use Rattle.forms.proofs.Laws.Tests.{unequal, equal}
+use Rattle.own_pages.proofs.Laws.Tests.{unequal, equal}
 use mathlib.Core.Path.{refl}
 use Rattle.judge.proofs.Laws.Numbers.{address-fits}
 use borrow.Author.Needs.{needs}

@@ -1,7 +1,7 @@
 -- `judge::children::child_at` meets its contract. Assumes nothing.
 use mathlib.Core.Path.{refl}
 use Rattle.memory.specs.Counts.{childAt}
-use Rattle.forms.proofs.Laws.Tests.{unequal, equal, same-eqb}
+use Rattle.own_pages.proofs.Laws.Tests.{unequal, equal, same-eqb}
 use borrow.Author.Needs.{needs}
 use Rattle.judge.proofs.children.child_at.Statement.{statement}
 use Rattle.judge.proofs.children.child_at.Tie as tie

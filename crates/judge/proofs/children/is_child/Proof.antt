@@ -1,6 +1,6 @@
 -- `judge::children::is_child` meets its contract. Assumes nothing.
 use lib.Dec.{eqb}
-use Rattle.forms.proofs.Laws.Tests.{and-false, and-true}
+use Rattle.own_pages.proofs.Laws.Tests.{and-false, and-true}
 use mathlib.Core.Bool.{Bool, not, _&&_}
 use mathlib.Core.Path.{sym, ap, _∙_}
 use borrow.Author.Tests.{eq-eqb, ne-eqb}

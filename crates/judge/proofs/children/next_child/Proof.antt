@@ -3,10 +3,10 @@ use Prim.Native.Nat.{_-_}
 use mathlib.Core.Path.{_≡_, sym, _∙_}
 use native.Mathlib.Omega.{arith}
 use lib.ListN.{getD}
-use Rattle.judge.specs.Search.{seek}
-use Rattle.judge.specs.Rows.{childWords}
-use Rattle.judge.proofs.Laws.Search.{seek-on, seek-here, seek-end}
-use Rattle.judge.proofs.Laws.Blocks.{childless-past}
+use Rattle.tally.specs.Search.{seek}
+use Rattle.tally.specs.Rows.{childWords}
+use Rattle.tally.proofs.Laws.Search.{seek-on, seek-here, seek-end}
+use Rattle.tally.proofs.Laws.Blocks.{childless-past}
 use borrow.Author.Needs.{needs}
 use Rattle.judge.proofs.children.next_child.Statement.{statement}
 use Rattle.judge.proofs.children.next_child.Tie as tie

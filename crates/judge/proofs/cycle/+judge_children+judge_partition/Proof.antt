@@ -18,14 +18,14 @@ use Rattle.memory.specs.Partition.{directory, shadow1, mapping, lent}
 use Rattle.memory.specs.Counts.{children}
 use Rattle.soundness.specs.Test.{own}
 use Rattle.judging.specs.Quick.{partitionTest}
-use Rattle.judge.specs.Run.{run, marking}
-use Rattle.judge.specs.Rows.{used, childWords}
-use Rattle.judge.specs.Bits.{marksIn}
+use Rattle.tally.specs.Run.{run, marking}
+use Rattle.tally.specs.Rows.{used, childWords}
+use Rattle.tally.specs.Bits.{marksIn}
 use Rattle.judge.proofs.Laws.Tree.{alone-no, cells-no, cells-yes, no-child}
-use Rattle.judge.proofs.Laws.Search.{next-low, next-high, next-here}
-use Rattle.judge.proofs.Laws.Rows.{rowStep, rows-first, rows-next, rows-end}
-use Rattle.judge.proofs.Laws.Sweeps.{childStep, children-run, children-row}
-use Rattle.judge.proofs.Laws.Walks.{rows-stop, picked-first, picked-next, picked-fails, picked-end, picked-is, child-short, child-rest}
+use Rattle.tally.proofs.Laws.Search.{next-low, next-high, next-here}
+use Rattle.tally.proofs.Laws.Rows.{rowStep, rows-first, rows-next, rows-end}
+use Rattle.tally.proofs.Laws.Sweeps.{childStep, children-run, children-row}
+use Rattle.tally.proofs.Laws.Walks.{rows-stop, picked-first, picked-next, picked-fails, picked-end, picked-is, child-short, child-rest}
 use Prim.Native.Nat.{ℕ, _<_}
 use borrow.Fn.Kinds.{In}
 use borrow.Fn.PlainCycle.{Measures, is, falls, and}
@@ -38,8 +38,8 @@ use Rattle.judge.proofs.cycle.+judge_children+judge_partition.Lts-judge
 use Rattle.judge.proofs.cells.cells_test.Reads as cells-test-reads
 use Rattle.judge.proofs.children.next_child.Reads as next-child-reads
 use Rattle.judge.proofs.partitions.judge_alone.Reads as judge-alone-reads
-use Rattle.judge.proofs.rows.next_word.Reads as next-word-reads
-use Rattle.judge.proofs.rows.table_of.Reads as table-of-reads
+use Rattle.tally.proofs.rows.next_word.Reads as next-word-reads
+use Rattle.tally.proofs.rows.table_of.Reads as table-of-reads
 use Rattle.pages.proofs.parts.words_of.Reads as words-of-reads
 use Rattle.pages.proofs.page_of.Reads as page-of-reads
 use Rattle.pages.proofs.directory.Reads as directory-reads

@@ -4,10 +4,10 @@ use mathlib.Core.Bool.{false≢true}
 use borrow.Author.Needs.{needs}
 use borrow.Author.Tests.{not-true, not-false}
 use Rattle.walk.specs.Marks.{passed, failed}
-use Rattle.judge.specs.Bits.{marksIn}
+use Rattle.tally.specs.Bits.{marksIn}
 use Rattle.judge.specs.Alone.{aloneTest}
 use Rattle.judge.proofs.Laws.Tree.{alone-bad, alone-unmarked, alone-marked}
-use Rattle.judge.proofs.Laws.Marks.{own-no, own-yes}
+use Rattle.tally.proofs.Laws.Marks.{own-no, own-yes}
 use Rattle.judge.proofs.Laws.Order.{unformed, few, tested}
 use Rattle.judge.proofs.partitions.judge_alone.Statement.{statement}
 use Rattle.judge.proofs.partitions.judge_alone.Tie as tie

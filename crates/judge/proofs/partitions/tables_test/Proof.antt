@@ -1,5 +1,5 @@
 -- `judge::partitions::tables_test` meets its contract. Assumes nothing.
-use Rattle.forms.proofs.Laws.Tests.{equal, unequal}
+use Rattle.own_pages.proofs.Laws.Tests.{equal, unequal}
 use mathlib.Core.Path.{refl}
 use borrow.Author.Needs.{needs}
 use Rattle.judge.proofs.partitions.tables_test.Statement.{statement}

@@ -1,7 +1,7 @@
 -- `judge::root::root_bit` meets its contract. Assumes nothing.
 use mathlib.Core.Path.{sym, ap, _∙_}
 use native.Mathlib.Omega.{arith}
-use Rattle.judge.specs.Run.{bit}
+use Rattle.tally.specs.Run.{bit}
 use borrow.Author.Needs.{needs}
 use Rattle.judge.proofs.root.root_bit.Statement.{statement}
 use Rattle.judge.proofs.root.root_bit.Tie as tie

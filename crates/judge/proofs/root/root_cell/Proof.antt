@@ -2,7 +2,7 @@
 use mathlib.Core.Path.{refl}
 use native.Mathlib.Omega.{arith}
 use borrow.Author.Tests.{le-leb, lt-leb}
-use Rattle.forms.proofs.Laws.Tests.{unequal, equal, same-eqb}
+use Rattle.own_pages.proofs.Laws.Tests.{unequal, equal, same-eqb}
 use borrow.Author.Needs.{needs}
 use Rattle.judge.proofs.root.root_cell.Statement.{statement}
 use Rattle.judge.proofs.root.root_cell.Tie as tie

@@ -10,12 +10,12 @@ use Rattle.memory.specs.Words.{page}
 use Rattle.memory.specs.Counts.{tabled}
 use Rattle.memory.proofs.Widths.{words-most}
 use Rattle.soundness.specs.Test.{rootMapTest}
-use Rattle.judge.specs.Run.{run, asking}
-use Rattle.judge.specs.Rows.{used}
+use Rattle.tally.specs.Run.{run, asking}
+use Rattle.tally.specs.Rows.{used}
 use Rattle.judge.proofs.Laws.Numbers.{most-pages, row-in}
-use Rattle.judge.proofs.Laws.Search.{next-low, next-high, next-here}
-use Rattle.judge.proofs.Laws.Rows.{rowStep, rows-first, rows-end, asks-next, asks-stop, dir-short, part-short}
-use Rattle.judge.proofs.Laws.Sweeps.{root-run, root-row}
+use Rattle.tally.proofs.Laws.Search.{next-low, next-high, next-here}
+use Rattle.tally.proofs.Laws.Rows.{rowStep, rows-first, rows-end, asks-next, asks-stop, dir-short, part-short}
+use Rattle.tally.proofs.Laws.Sweeps.{root-run, root-row}
 use borrow.Author.Needs.{needs}
 use Rattle.judge.proofs.root.root_map.Statement.{statement}
 use Rattle.judge.proofs.root.root_map.Tie as tie

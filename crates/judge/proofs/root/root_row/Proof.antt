@@ -5,10 +5,10 @@ use mathlib.Core.Bool.{true}
 use native.Mathlib.Omega.{arith}
 use Rattle.walk.specs.Finite.{from}
 use Rattle.memory.specs.Geometry.{pageWords}
-use Rattle.judge.specs.Run.{run, asking}
+use Rattle.tally.specs.Run.{run, asking}
 use Rattle.memory.proofs.Widths.{words-most}
-use Rattle.judge.proofs.Laws.Run.{Counted, counted-next, counted-end, run-start, run-end, ask-next, ask-stop}
-use Rattle.judge.proofs.Laws.Sweeps.{root-words}
+use Rattle.tally.proofs.Laws.Run.{Counted, counted-next, counted-end, run-start, run-end, ask-next, ask-stop}
+use Rattle.tally.proofs.Laws.Sweeps.{root-words}
 use Rattle.judge.proofs.Laws.Flat.{askedAt, flat-stop, flat-stop₂, flat-past}
 use borrow.Author.Needs.{needs}
 use Rattle.judge.proofs.root.root_row.Statement.{statement}

@@ -1,5 +1,5 @@
 -- `judge::root::root_test` meets its contract. Assumes nothing.
-use Rattle.forms.proofs.Laws.Tests.{yes, no}
+use Rattle.own_pages.proofs.Laws.Tests.{yes, no}
 use Rattle.soundness.specs.Test.{rootTest}
 use borrow.Author.Needs.{needs}
 use Rattle.judge.proofs.root.root_test.Statement.{statement}

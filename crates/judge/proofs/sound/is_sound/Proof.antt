@@ -5,8 +5,8 @@ use native.Mathlib.Omega.{arith}
 use Rattle.memory.specs.Edition.{width}
 use Rattle.memory.specs.Partition.{pages}
 use Rattle.soundness.specs.Test.{headerTest}
-use Rattle.forms.proofs.Laws.Tests.{yes, no}
-use Rattle.judge.specs.Bits.{wordsFor}
+use Rattle.own_pages.proofs.Laws.Tests.{yes, no}
+use Rattle.tally.specs.Bits.{wordsFor}
 use Rattle.judge.proofs.Laws.Judged.{pages-most, zeros-part, unsound-header, verdict}
 use borrow.Author.Needs.{needs}
 use Rattle.judge.proofs.sound.is_sound.Statement.{statement}

@@ -9,8 +9,8 @@ use Rattle.walk.specs.Marks.{Seen}
 use Rattle.walk.specs.Walk as W
 use Rattle.judging.specs.Quick.{partitionTest, quickTest}
 use Rattle.soundness.specs.Test.{own, judged, under}
-use Rattle.forms.proofs.Laws.Tests.{yes, no}
-use Rattle.judge.proofs.Laws.Bits.{start-marks}
+use Rattle.own_pages.proofs.Laws.Tests.{yes, no}
+use Rattle.tally.proofs.Laws.Bits.{start-marks}
 use borrow.Author.Needs.{needs}
 use Rattle.judge.proofs.sound.judged_with.Statement.{statement}
 use Rattle.judge.proofs.sound.judged_with.Tie as tie

@@ -3,7 +3,7 @@ use native.Mathlib.Omega.{arith}
 use native.Mathlib.Nat.{pos-of-ne-zero}
 use Prim.Native.Nat.{_-_, _≤_}
 use lib.ListN.{length}
-use Rattle.judge.proofs.Laws.Bits.{MarkedBelow, below-all, word-next, word-stop, first-next, first-stop}
+use Rattle.tally.proofs.Laws.Bits.{MarkedBelow, below-all, word-next, word-stop, first-next, first-stop}
 use borrow.Author.Needs.{needs}
 use Rattle.judge.proofs.tree.all_marked.Statement.{statement}
 use Rattle.judge.proofs.tree.all_marked.Tie as tie

@@ -3,7 +3,7 @@ use mathlib.Core.Path.{_∙_}
 use borrow.Author.Needs.{needs}
 use borrow.Author.Tests.{not-true, not-false}
 use Rattle.walk.specs.Marks.{passed, failed}
-use Rattle.judge.specs.Bits.{marksIn}
+use Rattle.tally.specs.Bits.{marksIn}
 use Rattle.judge.proofs.Laws.Tree.{alone-no, cells-no, cells-yes, no-child}
 use Rattle.judge.proofs.tree.judge_root.Statement.{statement}
 use Rattle.judge.proofs.tree.judge_root.Tie as tie

@@ -1,7 +1,7 @@
 -- `judge::tree::placed` meets its contract. Assumes nothing.
 use mathlib.Core.Path.{refl}
 use Rattle.judge.proofs.Laws.Tree.{placed-as}
-use Rattle.forms.proofs.Laws.Tests.{yes, no, unequal, equal, same-eqb}
+use Rattle.own_pages.proofs.Laws.Tests.{yes, no, unequal, equal, same-eqb}
 use borrow.Author.Needs.{needs}
 use Rattle.judge.proofs.tree.placed.Statement.{statement}
 use Rattle.judge.proofs.tree.placed.Tie as tie

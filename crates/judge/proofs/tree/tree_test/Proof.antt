@@ -3,7 +3,7 @@ use mathlib.Core.Path.{sym, _∙_}
 use borrow.Author.Tests.{not-true, not-false}
 use Rattle.walk.specs.Marks.{passed, failed}
 use Rattle.memory.specs.Geometry.{mostDepth}
-use Rattle.judge.specs.Bits.{marksIn}
+use Rattle.tally.specs.Bits.{marksIn}
 use Rattle.judge.proofs.Laws.Judged.{judged-no, judged-yes}
 use Rattle.judge.proofs.Laws.Outside.{within-no, within-yes}
 use borrow.Author.Needs.{needs}

@@ -4,7 +4,7 @@ use mathlib.Core.Path.{_≡_, refl, sym, ap, _∙_}
 use native.Mathlib.Omega.{arith}
 use Rattle.soundness.specs.Test.{under}
 use Rattle.judge.proofs.Laws.Tree.{under-root, under-not, under-up, under-end}
-use Rattle.forms.proofs.Laws.Tests.{yes, no}
+use Rattle.own_pages.proofs.Laws.Tests.{yes, no}
 use borrow.Author.Needs.{needs}
 use Rattle.judge.proofs.tree.under.Statement.{statement}
 use Rattle.judge.proofs.tree.under.Tie as tie

@@ -1,0 +1,3 @@
+pub mod SlotRow
+pub mod Resumed
+pub mod Beside

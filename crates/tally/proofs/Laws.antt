@@ -1,0 +1,10 @@
+pub mod Search
+pub mod Blocks
+pub mod Run
+pub mod Counts
+pub mod Rows
+pub mod Sweeps
+pub mod Walks
+pub mod Tally
+pub mod Marks
+pub mod Bits

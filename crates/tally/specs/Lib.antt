@@ -1,0 +1,5 @@
+pub mod Search
+pub mod Run
+pub mod Rows
+pub mod Blocks
+pub mod Bits
