@@ -5,7 +5,7 @@
 Prints the functions of each crate; exit status 1 where one has a `requires`, or is not found."""
 import os, re, sys
 
-OPEN = ['kernel', 'block_kernel', 'startup', 'transcripts', 'assembly', 'exports']
+OPEN = ['kernel', 'block_kernel', 'startup', 'transcripts', 'assembly', 'exports', 'block_exports']
 # Of the record's crate only the reader is open; the writer's inner part and the bytes are for other crates of this repository.
 READER = ['Reading', 'read_record', 'record_begin', 'record_end', 'record_refusal', 'revision']
 

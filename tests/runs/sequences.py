@@ -190,11 +190,11 @@ GUIDED = [[(1, 300, 16, 0)], [(2, 600, 20, 0)], [(3, 1500, 73, 0)], [(4, 1500, 2
           [(7, 80, 16, 1), (8, 120, 256, 0), (9, 80, 16, 1), (10, 120, 256, 0)]]
 
 
-def guided(lines, edition):
-    """Format, and calls that tests/second makes: three in four are one part each, then a part of several."""
+def guided(form, lines):
+    """A format, and calls that tests/second makes: three in four are one part each, then a part of several."""
     parts = []
     while lines:
         take = 5 if len(parts) % 4 == 3 else 1
         parts.append(lines[:take])
         lines = lines[take:]
-    return [[[0, edition]]] + parts
+    return [[form]] + parts

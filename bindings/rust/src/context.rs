@@ -1,7 +1,8 @@
 //! Saved contexts: what a slot holds, and the three calls that save and take it.
+use crate::answer::answered;
 use crate::memory::Memory;
 use crate::raw;
-use crate::refusal::{answered, Refusal};
+use crate::refusal::Refusal;
 
 /// Words of a context.
 pub const CONTEXT_WORDS: usize = 11;
@@ -80,7 +81,7 @@ impl Memory<'_> {
     pub fn resume(&mut self, target: u32, slot: u32) -> Result<Context, Refusal> {
         let mut out = [0; CONTEXT_WORDS];
         let (words, length) = self.parts();
-        answered(unsafe { raw::tumashqin_resume(words, length, target, slot, out.as_mut_ptr(), out.len()) })?;
-        Ok(Context::from(out))
+        answered(unsafe { raw::tumashqin_resume(words, length, target, slot, out.as_mut_ptr(), out.len()) })
+            .map(|_| Context::from(out))
     }
 }

@@ -19,8 +19,12 @@
 //! # Ok(())
 //! # }
 //! ```
+//!
+//! [`block`] is the sister kernel for small controllers, over blocks of bytes.
 #![deny(missing_docs)]
 
+mod answer;
+pub mod block;
 mod context;
 mod edition;
 mod memory;

@@ -1,7 +1,8 @@
 //! Format and the twelve calls of document 01, over lent words.
+use crate::answer::{answered, done};
 use crate::edition::Edition;
 use crate::raw;
-use crate::refusal::{answered, done, Refusal};
+use crate::refusal::Refusal;
 use std::fmt;
 
 /// The right to read a page.
@@ -34,8 +35,8 @@ impl<'a> Memory<'a> {
     ///
     /// Refusal: Size.
     pub fn format(words: &'a mut [u32], edition: Edition) -> Result<Memory<'a>, Refusal> {
-        done(unsafe { raw::tumashqin_format(words.as_mut_ptr(), words.len(), edition as u32) })?;
-        Ok(Memory { words })
+        done(unsafe { raw::tumashqin_format(words.as_mut_ptr(), words.len(), edition as u32) })
+            .map(|()| Memory { words })
     }
 
     /// Any words, as they are: each call judges them, and refuses what is not sound with Damaged.

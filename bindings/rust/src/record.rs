@@ -1,6 +1,7 @@
 //! The start-up record, read.
+use crate::answer::done;
 use crate::raw;
-use crate::refusal::{done, Refusal};
+use crate::refusal::Refusal;
 
 /// Bytes of a record.
 pub const RECORD_BYTES: usize = 76;
@@ -26,8 +27,11 @@ pub struct Record<'a> {
 ///
 /// Refusals: Short, Magic.
 pub fn read_record(bytes: &[u8]) -> Result<Record<'_>, Refusal> {
-    done(unsafe { raw::tumashqin_record_refusal(bytes.as_ptr(), bytes.len()) })?;
-    Ok(Record { begin: record_begin(bytes), end: record_end(bytes), revision: revision(bytes) })
+    done(unsafe { raw::tumashqin_record_refusal(bytes.as_ptr(), bytes.len()) }).map(|()| Record {
+        begin: record_begin(bytes),
+        end: record_end(bytes),
+        revision: revision(bytes),
+    })
 }
 
 /// The record's begin alone, or 0 where it is refused.

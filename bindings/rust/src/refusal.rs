@@ -1,7 +1,7 @@
-//! Why a call was refused, and answers as results.
-use std::{error, fmt};
+//! Why a call was refused.
+use crate::answer::refusals;
 
-/// Why a call was refused, by the names of documents 01 and 02. A call gives the first that applies, in its order.
+/// Why a call was refused, by the names of documents 01 and 02. A call gives the first that applies, in its order. None has number 19 or 23.
 #[derive(Clone, Copy, Debug, PartialEq, Eq, Hash)]
 #[repr(u32)]
 pub enum Refusal {
@@ -60,16 +60,6 @@ impl Refusal {
         Unmapped, Kernel, Short, Magic, SlotPage, Slot, EmptySlot, Edition,
     ];
 
-    /// The refusal's number, 1 to 24; none has 19 or 23.
-    pub fn number(self) -> u32 {
-        self as u32
-    }
-
-    /// The refusal of a number, if it has one.
-    pub fn from_number(number: u32) -> Option<Refusal> {
-        Refusal::ALL.into_iter().find(|refusal| refusal.number() == number)
-    }
-
     /// A short message.
     pub fn message(self) -> &'static str {
         match self {
@@ -99,23 +89,4 @@ impl Refusal {
     }
 }
 
-impl fmt::Display for Refusal {
-    fn fmt(&self, f: &mut fmt::Formatter<'_>) -> fmt::Result {
-        f.write_str(self.message())
-    }
-}
-
-impl error::Error for Refusal {}
-
-/// 0, or a refusal's number.
-pub(crate) fn done(number: u32) -> Result<(), Refusal> {
-    match number {
-        0 => Ok(()),
-        _ => Err(Refusal::from_number(number).expect("the library refuses by a number of the documents")),
-    }
-}
-
-/// A call's answer: its refusal's number times 2^32, plus its word.
-pub(crate) fn answered(answer: u64) -> Result<u32, Refusal> {
-    done((answer >> 32) as u32).map(|()| answer as u32)
-}
+refusals!(Refusal);

@@ -1,6 +1,7 @@
 //! Builds a tree by calls that all pass.
 
-use crate::call::{Call, NAMES};
+use crate::call::{Call, Step};
+use crate::kernel;
 use crate::patch::Patch;
 use second::geometry::{Edition, Sizes, VPage, SMALL};
 use second::memory::{CURRENT, ROOT_PAGE};
@@ -9,22 +10,6 @@ use second::memory::{CURRENT, ROOT_PAGE};
 const FIRST_INDEX: usize = 1;
 const READ: u32 = 1;
 const READ_WRITE: u32 = 3;
-
-/// A call, and how the memory just before it differs from the whole tree's.
-#[derive(Clone)]
-pub struct Step {
-    pub call: Call,
-    pub before: Patch,
-}
-
-impl Step {
-    /// The memory just before it, of the whole tree's.
-    pub fn memory(&self, whole: &[u32]) -> Vec<u32> {
-        let mut memory = whole.to_vec();
-        self.before.apply(&mut memory);
-        memory
-    }
-}
 
 /// The ways of notify, dispatch and resume between a caller and its child.
 pub const WAYS: [&str; 7] = [
@@ -99,20 +84,9 @@ impl Builder {
         answer.unwrap_or_else(|refusal| panic!("{call:?} refused with {refusal}")).word()
     }
 
-    /// The last call of each number. All calls are made again, so that only these memories are looked at.
+    /// The last call of each number.
     pub fn last_calls(&self, whole: &[u32]) -> Vec<Step> {
-        let mut last = [None; NAMES.len()];
-        for (place, call) in self.calls.iter().enumerate() {
-            last[call.number as usize] = Some(place);
-        }
-        let (mut memory, mut steps) = (vec![0; whole.len()], Vec::new());
-        for (place, &call) in self.calls.iter().enumerate() {
-            if last.contains(&Some(place)) {
-                steps.push(Step { call, before: Patch::between(&memory, whole) });
-            }
-            let _ = call.trusting(&mut memory);
-        }
-        steps
+        kernel::last_calls(&self.calls, whole, Call::trusting)
     }
 
     fn hand(&mut self) -> &mut Vec<u32> {

@@ -1,6 +1,11 @@
 //! A call by its number and arguments, made in either version.
 
+use crate::kernel::{self, KernelCall};
+use crate::library;
 use crate::ordinary::{self, Context, Pages};
+use crate::scenario::{kernel_pages, mappings};
+use second::damage::wide_damage;
+use second::random::Random;
 use tumashqin::{Edition, Memory, Refusal};
 
 /// By number; format has none, and stands at 0. Its argument is the edition.
@@ -23,11 +28,6 @@ pub const NAMES: [&str; 16] = [
     "resume",
 ];
 
-/// The verdict: it judges and does no more. It is no call, and stands behind resume.
-pub const JUDGE: Call = Call { number: 16, arguments: [0; MOST_ARGUMENTS] };
-/// What it answers of sound memory.
-pub const JUDGED_SOUND: Answer = DONE;
-
 /// A call's word, or a resume's eleven.
 #[derive(Clone, Copy, PartialEq, Eq, Debug)]
 pub enum Words {
@@ -45,8 +45,8 @@ impl Words {
     }
 }
 
-/// The words, or the number of the first refusal.
-pub type Answer = Result<Words, u32>;
+pub type Answer = kernel::Answer<Call>;
+pub type Step = kernel::Step<Call>;
 /// What most calls answer.
 pub const DONE: Answer = Ok(Words::One(0));
 
@@ -66,16 +66,6 @@ impl Call {
         let mut arguments = [0; MOST_ARGUMENTS];
         arguments[..given.len()].copy_from_slice(given);
         Call { number, arguments }
-    }
-
-    pub fn ordinary(&self, words: &mut [u32]) -> Answer {
-        if self.number == 0 {
-            return ordinary::format(words, self.arguments[0]).map(Words::One);
-        }
-        match Pages::of(words)? {
-            Pages::Small(pages) => self.on(ordinary::Memory::judged(pages)?),
-            Pages::Large(pages) => self.on(ordinary::Memory::judged(pages)?),
-        }
     }
 
     /// The ordinary version without the judgement, for memory that is known to be sound.
@@ -108,12 +98,34 @@ impl Call {
             13 => ordinary::notify(&mut m, target, eip, eflags, registers),
             14 => ordinary::dispatch(&mut m, target),
             RESUME => return ordinary::resume(&mut m, target, b).map(Words::Eleven),
-            _ => return JUDGED_SOUND,
+            _ => return Call::JUDGED_SOUND,
         };
         answer.map(Words::One)
     }
+}
 
-    pub fn proved(&self, words: &mut [u32]) -> Answer {
+impl KernelCall for Call {
+    type Words = Words;
+    const NAMES: &'static [&'static str] = &NAMES;
+    /// It is no call, and stands behind resume.
+    const JUDGE: Call = Call { number: 16, arguments: [0; MOST_ARGUMENTS] };
+    const JUDGED_SOUND: Answer = DONE;
+
+    fn number(&self) -> u32 {
+        self.number
+    }
+
+    fn ordinary(&self, words: &mut [u32]) -> Answer {
+        if self.number == 0 {
+            return ordinary::format(words, self.arguments[0]).map(Words::One);
+        }
+        match Pages::of(words)? {
+            Pages::Small(pages) => self.on(ordinary::Memory::judged(pages)?),
+            Pages::Large(pages) => self.on(ordinary::Memory::judged(pages)?),
+        }
+    }
+
+    fn proved(&self, words: &mut [u32]) -> Answer {
         let [a, b, c, d, e, ..] = self.arguments;
         let [target, eip, eflags, registers @ ..] = self.arguments;
         let mut memory = match self.number {
@@ -141,6 +153,18 @@ impl Call {
             _ => memory.verdict().map(|()| 0),
         };
         answer.map(Words::One).map_err(Refusal::number)
+    }
+
+    fn painted(&self, words: &mut [u32]) -> (Answer, usize) {
+        library::call(self, words)
+    }
+
+    fn counts(words: &[u32]) -> Vec<(&'static str, usize)> {
+        vec![("kernel pages", kernel_pages(words)), ("mappings", mappings(words))]
+    }
+
+    fn damage(words: &[u32], random: &mut Random) -> Vec<(usize, u32)> {
+        wide_damage(words, random)
     }
 }
 

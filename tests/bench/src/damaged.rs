@@ -1,8 +1,8 @@
 //! Damaged memories: sound ones with a word changed late, and ones made to cost a judge as much as they can.
 
-use crate::call::{JUDGE, JUDGED_SOUND};
+use crate::call::Call;
+use crate::kernel::KernelCall;
 use crate::measure::rough;
-use second::damage::wide_damage;
 use second::geometry::{Edition, PPage, VPage};
 use second::memory::{
     named_page, set_table_word, set_word, start, word, Partition, CURRENT, FLAG, PARENT, PRESENT, ROOT_PAGE,
@@ -43,7 +43,7 @@ pub fn damaged(sound: &[u32]) -> Vec<Damaged> {
         Damaged { name: "every page a child", words: all_children(edition, pages) },
         Damaged { name: "random below the root", words: noise(below_root) },
         Damaged { name: "random", words: noise(0) },
-        Damaged { name: "costliest of random changes", words: costliest(sound) },
+        Damaged { name: "costliest of random changes", words: costliest::<Call>(sound) },
         Damaged { name: "all zeros", words: vec![0; sound.len()] },
         Damaged { name: "all ones", words: vec![u32::MAX; sound.len()] },
     ];
@@ -52,17 +52,18 @@ pub fn damaged(sound: &[u32]) -> Vec<Damaged> {
 }
 
 /// Of many random changes of a few words, the one that the proved judge takes longest over.
-fn costliest(sound: &[u32]) -> Vec<u32> {
+pub fn costliest<C: KernelCall>(sound: &[u32]) -> Vec<u32> {
     let mut random = Random::new(11);
     let tries = (MOST_WORDS / sound.len()).clamp(LEAST_TRIES, TRIES);
-    let changed = |_| with(sound, |m| wide_damage(sound, &mut random).into_iter().for_each(|(i, word)| m[i] = word));
-    let damaged =
-        (0..tries).map(changed).filter_map(|mut words| (JUDGE.ordinary(&mut words) != JUDGED_SOUND).then_some(words));
-    let timed = damaged.map(|words| (rough(&words).proved, words));
+    let changed = |_| with(sound, |m| C::damage(sound, &mut random).into_iter().for_each(|(i, word)| m[i] = word));
+    let damaged = (0..tries)
+        .map(changed)
+        .filter_map(|mut words| (C::JUDGE.ordinary(&mut words) != C::JUDGED_SOUND).then_some(words));
+    let timed = damaged.map(|words| (rough::<C>(&words).proved, words));
     timed.max_by(|one, other| one.0.total_cmp(&other.0)).map_or_else(|| sound.to_vec(), |(_, words)| words)
 }
 
-fn with(sound: &[u32], change: impl FnOnce(&mut [u32])) -> Vec<u32> {
+pub fn with(sound: &[u32], change: impl FnOnce(&mut [u32])) -> Vec<u32> {
     let mut words = sound.to_vec();
     change(&mut words);
     words

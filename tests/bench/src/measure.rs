@@ -1,7 +1,6 @@
 //! Timing of calls: the least of many single calls, the versions in turn, so that other work on the machine falls out.
 
-use crate::builder::Step;
-use crate::call::{Answer, Call, JUDGE};
+use crate::kernel::{Answer, KernelCall, Step, Version};
 use crate::patch::Patch;
 use std::hint::black_box;
 use std::time::{Duration, Instant};
@@ -28,9 +27,9 @@ impl Times {
 }
 
 /// A call on one memory, which is put back after each time.
-struct Timed {
-    call: Call,
-    answer: Answer,
+struct Timed<C: KernelCall> {
+    call: C,
+    answer: Answer<C>,
     place: Place,
     /// What the memory of its place has otherwise when the call is made.
     before: Patch,
@@ -43,8 +42,8 @@ struct Timed {
     spent: Duration,
 }
 
-impl Timed {
-    fn time(&mut self, version: fn(&Call, &mut [u32]) -> Answer, memory: &mut [u32]) -> Duration {
+impl<C: KernelCall> Timed<C> {
+    fn time(&mut self, version: Version<C>, memory: &mut [u32]) -> Duration {
         let start = Instant::now();
         let answer = version(black_box(&self.call), black_box(memory));
         let time = start.elapsed();
@@ -56,7 +55,7 @@ impl Timed {
     fn turns(&mut self, memory: &mut [u32]) {
         let start = Instant::now();
         self.before.exchange(memory);
-        let versions: [fn(&Call, &mut [u32]) -> Answer; 2] = [Call::proved, Call::ordinary];
+        let versions: [Version<C>; 2] = [C::proved, C::ordinary];
         for (k, version) in versions.into_iter().enumerate() {
             for _ in 0..self.turn {
                 self.least[k] = self.least[k].min(self.time(version, memory));
@@ -75,24 +74,29 @@ pub struct Place(usize);
 #[derive(Clone, Copy)]
 pub struct Row(usize);
 
-#[derive(Default)]
-pub struct Bench {
+pub struct Bench<C: KernelCall> {
     memories: Vec<Vec<u32>>,
-    rows: Vec<Timed>,
+    rows: Vec<Timed<C>>,
     /// A memory after a call, by either version.
     after: [Vec<u32>; 2],
     /// What reading the clock adds to a time.
     cost: Duration,
 }
 
-impl Bench {
+impl<C: KernelCall> Default for Bench<C> {
+    fn default() -> Bench<C> {
+        Bench { memories: Vec::new(), rows: Vec::new(), after: Default::default(), cost: Duration::ZERO }
+    }
+}
+
+impl<C: KernelCall> Bench<C> {
     pub fn memory(&mut self, words: Vec<u32>) -> Place {
         self.memories.push(words);
         Place(self.memories.len() - 1)
     }
 
     /// A call on the memory at a place, as it was before that step. Both versions have to do the same.
-    pub fn add(&mut self, step: &Step, place: Place) -> Row {
+    pub fn add(&mut self, step: &Step<C>, place: Place) -> Row {
         let Step { call, mut before } = step.clone();
         let (memory, [after, other]) = (&mut self.memories[place.0], &mut self.after);
         before.exchange(memory);
@@ -111,7 +115,7 @@ impl Bench {
 
     /// The judge on the memory at a place.
     pub fn judge(&mut self, place: Place) -> Row {
-        self.add(&Step { call: JUDGE, before: Patch::default() }, place)
+        self.add(&Step::judge(Patch::default()), place)
     }
 
     /// Gives a row so many times as much of the time.
@@ -147,7 +151,7 @@ impl Bench {
         self.cost.as_nanos() as f64
     }
 
-    pub fn answer(&self, row: Row) -> Answer {
+    pub fn answer(&self, row: Row) -> Answer<C> {
         self.rows[row.0].answer
     }
 }
@@ -158,8 +162,8 @@ fn cost() -> Duration {
 }
 
 /// The judge on one memory, at a short look.
-pub fn rough(memory: &[u32]) -> Times {
-    let mut bench = Bench::default();
+pub fn rough<C: KernelCall>(memory: &[u32]) -> Times {
+    let mut bench = Bench::<C>::default();
     let place = bench.memory(memory.to_vec());
     let row = bench.judge(place);
     (0..2).for_each(|_| bench.rows[row.0].turns(&mut bench.memories[place.0]));

@@ -1,6 +1,8 @@
 //! Memories to measure on: trees of several shapes, each by a recipe for any number of pages of either edition.
 
-use crate::builder::{Builder, Step};
+use crate::builder::Builder;
+use crate::call::{Call, Step};
+use crate::kernel::{numbered, Tree};
 use second::geometry::{Edition, VPage, LARGE};
 use second::memory::{Mapping, Partition};
 use second::tree::tree;
@@ -31,15 +33,6 @@ impl Scenario {
         self.whole.len() / self.edition.page_words()
     }
 
-    pub fn title(&self) -> String {
-        format!("{}{} {}", prefix(self.edition), self.pages(), self.name)
-    }
-
-    /// The last time that a call was made.
-    pub fn last(&self, number: u32) -> Option<&Step> {
-        self.passing.iter().find(|step| step.call.number == number)
-    }
-
     /// The last child of the tree ends; without one the tree is the root alone.
     fn of(name: &'static str, mut built: Builder, child: Option<u32>) -> Scenario {
         let whole = built.memory.clone();
@@ -49,6 +42,26 @@ impl Scenario {
             built.finish(child);
         }
         Scenario { name, edition: built.edition, passing: built.last_calls(&whole), refused, ways, whole }
+    }
+}
+
+impl Tree for Scenario {
+    type Call = Call;
+
+    fn title(&self) -> String {
+        format!("{}{} {}", prefix(self.edition), self.pages(), self.name)
+    }
+
+    fn whole(&self) -> &[u32] {
+        &self.whole
+    }
+
+    fn passing(&self, number: u32) -> Option<&Step> {
+        numbered(&self.passing, number)
+    }
+
+    fn refused(&self, number: u32) -> Option<&Step> {
+        numbered(&self.refused, number)
     }
 }
 

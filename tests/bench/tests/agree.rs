@@ -1,7 +1,8 @@
 //! The ordinary version and the proved kernel do what the independent program of tests/second does: on guided random calls, and on damaged memories.
 
 use bench::builder::WAYS;
-use bench::call::{Answer, Call, Words, DONE, JUDGE, JUDGED_SOUND, NAMES};
+use bench::call::{Answer, Call, Words, DONE, NAMES};
+use bench::kernel::{KernelCall, Tree};
 use bench::library;
 use bench::scenario::{down_to, lent_pages, LENT, MOST_DEPTH};
 use second::calls::{call, perform, Said, ARGUMENTS};
@@ -112,7 +113,7 @@ fn contexts() {
 #[test]
 fn many_lent_pages() {
     for scenario in EDITIONS.into_iter().flat_map(|edition| LENT.map(|recipe| recipe(edition, 256))) {
-        let step = scenario.last(2).expect("a child that is ended");
+        let step = scenario.passing(2).expect("a child that is ended");
         let before = step.memory(&scenario.whole);
         let [mut ordinary, mut proved, mut other] = [(); 3].map(|()| before.clone());
         assert_eq!(step.call.ordinary(&mut ordinary), DONE, "{}", scenario.title());
@@ -138,9 +139,9 @@ fn verdicts_on_damaged_memories() {
                 }
                 let expected = sound(&changed).is_ok();
                 counts[edition.number as usize][usize::from(expected)] += 1;
-                let answer = if expected { JUDGED_SOUND } else { Err(1) };
-                assert_eq!(JUDGE.ordinary(&mut changed), answer);
-                assert_eq!(JUDGE.proved(&mut changed), answer);
+                let answer = if expected { Call::JUDGED_SOUND } else { Err(1) };
+                assert_eq!(Call::JUDGE.ordinary(&mut changed), answer);
+                assert_eq!(Call::JUDGE.proved(&mut changed), answer);
             }
         });
     }

@@ -2,6 +2,7 @@
 
 use bench::builder::WAYS;
 use bench::call::NAMES;
+use bench::kernel::Tree;
 use bench::painted::{call, Function, ARGUMENTS};
 use bench::report::stack::{sizes, Stack};
 use bench::scenario::{down_to, MOST_DEPTH};
@@ -57,7 +58,7 @@ fn depths() {
     for (edition, pages) in all() {
         for depth in 0..=MOST_DEPTH {
             let scenario = down_to(depth, edition, pages);
-            let passing: Vec<_> = (1..NAMES.len() as u32).filter_map(|number| scenario.last(number)).collect();
+            let passing: Vec<_> = (1..NAMES.len() as u32).filter_map(|number| scenario.passing(number)).collect();
             let [all, ways] = if edition == SMALL { [15, WAYS.len()] } else { [12, 0] };
             assert_eq!([passing.len(), scenario.ways.len()], if depth == 0 { [4, 0] } else { [all, ways] });
             assert_eq!(scenario.refused.len(), 15);

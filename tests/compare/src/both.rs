@@ -2,6 +2,7 @@
 
 use crate::proved;
 use crate::tally::Tally;
+use compare::answers;
 use second::calls::{self, Said};
 use second::cover::ROWS;
 use second::geometry::Edition;
@@ -48,16 +49,12 @@ pub fn same(proved: &[u32], second: &[u32], said: Said, expected: Said) -> Resul
         return Ok(());
     }
     let size = Edition::of(second).page_words();
-    let word = (0..second.len()).find(|&i| proved[i] != second[i]).map_or("no word differs".to_string(), |i| {
-        let (page, place) = (i / size, i % size);
-        format!("word {i} (page {page}, word {place}): proved {:#x}, second {:#x}", proved[i], second[i])
-    });
-    Err(format!("  answer: proved {}, second {}\n  {word}", shown(said), shown(expected)))
+    let place = |i: usize| format!(" (page {}, word {})", i / size, i % size);
+    Err(answers::difference(proved, second, [said, expected].map(shown), place))
 }
 
 pub fn shown(said: Said) -> String {
-    let words = said.context.map_or_else(String::new, |context| format!(" {context:?}"));
-    said.answer.map_or_else(|refusal| format!("no {refusal}"), |word| format!("ok {word}")) + &words
+    answers::shown(said.answer, said.context.as_ref().map(|context| &context[..]))
 }
 
 #[cfg(test)]

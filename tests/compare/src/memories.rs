@@ -16,7 +16,7 @@ use second::sound::broken;
 fn judge(mem: &[u32], random: &mut Random, tally: &mut Tally) -> Result<(), String> {
     let (mut proved, mut second) = (mem.to_vec(), mem.to_vec());
     let sentences = broken(mem);
-    tally.of(mem).judged(&sentences);
+    tally.of(mem).judged.count(&sentences);
     tally.flags.count(mem, &sentences);
     let mut result = verdict(mem, tally);
     if sentences.is_empty() {
@@ -92,7 +92,7 @@ pub fn unwritable(mem: &[u32], random: &mut Random, tally: &mut Tally) -> Result
     let Some((changes, child)) = unwritable_kernel_page(mem, random) else { return Ok(()) };
     let (mut second, edition) = (mem.to_vec(), Edition::of(mem));
     changes.into_iter().for_each(|(index, value)| second[index] = value);
-    tally.of(&second).judged(&broken(&second));
+    tally.of(&second).judged.count(&broken(&second));
     let mut result = verdict(&second, tally);
     let caller = Partition::current(&second);
     let own = caller.mapping(&second, VPage::of(edition, child)).map(|m| Partition::at(&second, m.page));

@@ -1,5 +1,6 @@
 //! The proved kernel, by its C interface.
 
+use compare::answers::unpacked;
 use second::calls::{Answer, Said};
 use second::contexts::CONTEXT_WORDS;
 use tumashqin::{Edition, Memory, Refusal};
@@ -32,14 +33,6 @@ extern "C" {
     ) -> u64;
 }
 
-/// The word, or the refusal times 2^32.
-fn unpacked(packed: u64) -> Answer {
-    match (packed >> 32) as u32 {
-        0 => Ok(packed as u32),
-        refusal => Err(refusal),
-    }
-}
-
 fn format(words: &mut [u32], edition: u32) -> Answer {
     let edition = match edition {
         0 => Edition::Pages256,
@@ -65,16 +58,17 @@ fn dispatch(words: &mut [u32], target: u32) -> Answer {
     unpacked(unsafe { tumashqin_dispatch(words.as_mut_ptr(), words.len(), target) })
 }
 
-/// With any number of words lent for the context.
-pub fn resume(words: &mut [u32], target: u32, slot: u32, out: &mut [u32]) -> Answer {
-    unpacked(unsafe { tumashqin_resume(words.as_mut_ptr(), words.len(), target, slot, out.as_mut_ptr(), out.len()) })
+/// Of the buffer the first so many words are lent for the context.
+pub fn resume(words: &mut [u32], target: u32, slot: u32, out: &mut [u32], length: usize) -> Answer {
+    assert!(length <= out.len());
+    unpacked(unsafe { tumashqin_resume(words.as_mut_ptr(), words.len(), target, slot, out.as_mut_ptr(), length) })
 }
 
 /// Performs a call by its number, 0 for format.
 pub fn call(words: &mut [u32], line: &[u32]) -> Said {
     if let [15, target, slot] = *line {
         let mut out = [0xA5A5_A5A5; CONTEXT_WORDS];
-        let answer = resume(words, target, slot, &mut out);
+        let answer = resume(words, target, slot, &mut out, CONTEXT_WORDS);
         return Said { answer, context: Some(out) };
     }
     call_but_resume(words, line).into()

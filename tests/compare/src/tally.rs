@@ -7,6 +7,8 @@ use crate::paired::Paired;
 use crate::round::{FEW, MANY};
 use crate::scripts;
 use crate::ways::Ways;
+use compare::judged::Judged;
+use compare::rounds;
 use second::calls::Answer;
 use second::cover::Cover;
 use second::geometry::{Edition, EDITIONS};
@@ -21,10 +23,7 @@ const NONE: usize = EDITIONS.len();
 pub struct Part {
     /// Format stands with the edition that it is to choose.
     pub cover: Cover,
-    /// Memories of other words: the sound ones, those that break one sentence alone, by its number, and those that break several.
-    sound: u64,
-    alone: BTreeMap<u32, u64>,
-    several: u64,
+    pub judged: Judged,
     /// Those of them whose header named the other edition before.
     pub from_the_other: u64,
     /// Verdicts of sound memories, and of others.
@@ -55,19 +54,9 @@ fn add(own: &mut [u64], other: &[u64]) {
 }
 
 impl Part {
-    pub fn judged(&mut self, broken: &[u32]) {
-        *match *broken {
-            [] => &mut self.sound,
-            [sentence] => self.alone.entry(sentence).or_default(),
-            _ => &mut self.several,
-        } += 1;
-    }
-
     fn add(&mut self, other: &Part) {
         self.cover.add(&other.cover);
-        self.sound += other.sound;
-        other.alone.iter().for_each(|(&sentence, count)| *self.alone.entry(sentence).or_default() += count);
-        self.several += other.several;
+        self.judged.add(&other.judged);
         add(&mut self.verdicts, &other.verdicts);
         self.from_the_other += other.from_the_other;
         self.paired.add(&other.paired);
@@ -76,8 +65,7 @@ impl Part {
     /// What has to occur on memories of an edition, and did not.
     fn missing(&self, edition: Edition) -> Vec<String> {
         let mut missing = self.cover.missing(&[edition]);
-        let sentences = numbers().filter(|sentence| !self.alone.contains_key(sentence));
-        missing.extend(sentences.map(|sentence| format!("sentence {sentence} broken alone")));
+        missing.extend(self.judged.missing(numbers()));
         let verdicts = [0, 1].into_iter().filter(|&verdict| self.verdicts[verdict] == 0);
         missing.extend(verdicts.map(|verdict| format!("verdict {verdict}")));
         missing.extend((self.from_the_other == 0).then(|| "a memory of the other edition".to_string()));
@@ -115,8 +103,10 @@ impl Tally {
     pub fn sequence(&mut self, pages: usize) {
         *self.sequences.entry(pages).or_default() += 1;
     }
+}
 
-    pub fn add(&mut self, other: &Tally) {
+impl rounds::Tally for Tally {
+    fn add(&mut self, other: &Tally) {
         self.parts.iter_mut().zip(&other.parts).for_each(|(own, other)| own.add(other));
         self.ways.add(&other.ways);
         self.context_ways.add(&other.context_ways);
@@ -127,8 +117,7 @@ impl Tally {
         self.bad_scripts += other.bad_scripts;
     }
 
-    /// What has to occur and did not.
-    pub fn missing(&self) -> Vec<String> {
+    fn missing(&self) -> Vec<String> {
         let mut missing = self.ways.missing();
         missing.extend(self.context_ways.missing());
         missing.extend(self.flags.missing());
@@ -145,15 +134,8 @@ impl Tally {
 
 impl fmt::Display for Part {
     fn fmt(&self, f: &mut fmt::Formatter) -> fmt::Result {
-        let (sound, several) = (self.sound, self.several);
-        writeln!(
-            f,
-            "{} memories of other words: {sound} sound, {several} break several sentences; {} were of the other edition",
-            sound + several + self.alone.values().sum::<u64>(),
-            self.from_the_other
-        )?;
-        let alone: Vec<_> = self.alone.iter().map(|(sentence, count)| format!("{sentence}: {count}")).collect();
-        writeln!(f, "sentences broken alone: {}", alone.join(", "))?;
+        writeln!(f, "{}; {} were of the other edition", self.judged, self.from_the_other)?;
+        writeln!(f, "{}", self.judged.alone())?;
         let [sound, damaged] = self.verdicts;
         writeln!(f, "{} verdicts: {sound} sound, {damaged} damaged", sound + damaged)
     }

@@ -17,3 +17,4 @@ pub mod refusal;
 pub mod replay;
 pub mod sound;
 pub mod tree;
+pub mod words;

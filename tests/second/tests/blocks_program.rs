@@ -67,3 +67,34 @@ fn make_cover_facts_damage_dump_and_judge() {
     assert_eq!(blocks(&["damage", "1", "1"], b"3840\n").0, 2);
     assert_eq!(text(&["facts"], "3840\n13\n0\n"), "3 calls\n");
 }
+
+fn bytes_of(words: &[u32]) -> Vec<u8> {
+    words.iter().flat_map(|word| word.to_le_bytes()).collect()
+}
+
+#[test]
+fn runs() {
+    // One word: format is refused, and a number that no call has ends the part; then a cut call, format and a find in 16 KiB.
+    let input = bytes_of(&[1, 3, 0, 14, 0, 0, 4096, 3, 13, 7, 8, 4, 0, 11, 0, 968, 0, 0]);
+    let (status, output) = blocks(&["runs"], &input);
+    let lines: Vec<_> = std::str::from_utf8(&output).unwrap().lines().collect();
+    let seven = (2_166_136_261u32 ^ 7).wrapping_mul(16_777_619).to_string();
+    assert_eq!((status, &lines[..4]), (0, &["no 13", &seven, "verdict 1", "no 1"][..]));
+    assert_eq!(lines[5..13], ["ok 0", "ok 1", "ok 8", "ok 968", "ok 16384", "ok 7", "ok 1", "ok 0"]);
+    assert!(lines[4] != lines[13] && lines[14..] == ["verdict 0"]);
+    let (status, cover) = blocks(&["runs", "cover"], &input);
+    assert!(status == 1 && String::from_utf8(cover).unwrap().contains("NOT COVERED create no 9\n"));
+}
+
+#[test]
+fn runs_stop_where_there_is_no_room_for_an_answer() {
+    // Nine finds take 63 of 64 places: a call behind them is run, a tenth find is not.
+    let finds = |count: usize| [[11, 0, 968]].repeat(count).concat();
+    let lines_of = |part: &[u32]| {
+        let input = bytes_of(&[&[4096, 1, 0, part.len() as u32], part, &[0, 0]].concat());
+        blocks(&["runs"], &input).1.iter().filter(|&&byte| byte == b'\n').count() - 4
+    };
+    assert_eq!(lines_of(&finds(9)), 63);
+    assert_eq!(lines_of(&[finds(9), vec![13, 13]].concat()), 64);
+    assert_eq!(lines_of(&[finds(10), vec![13]].concat()), 63);
+}

@@ -19,5 +19,5 @@ pub use format::format;
 pub use lending::{add_vaddr, mapped_in_child, remove_vaddr};
 pub use making::{create_partition, delete_partition};
 pub use memory::{Memory, Pages};
-pub use refusal::Answer;
+pub use refusal::{require, Answer};
 pub use threes::{collect, page_count, prepare};

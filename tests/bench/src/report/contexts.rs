@@ -1,10 +1,12 @@
 //! Notify, dispatch and resume in each of their ways, between a caller and its child that both have slot pages; and refused on damaged memory.
 
-use super::{ratio, whole};
-use crate::builder::{Step, WAYS};
-use crate::call::NAMES;
+use super::bar::{ratio, whole};
+use super::Bench;
+use crate::builder::WAYS;
+use crate::call::{Step, NAMES};
 use crate::damaged::last_flag;
-use crate::measure::{Bench, Row, Times};
+use crate::kernel::Tree;
+use crate::measure::{Row, Times};
 use crate::patch::Patch;
 use crate::scenario::{broad_slots, down_to, Scenario, MOST_DEPTH};
 use crate::table::Table;

@@ -1,12 +1,10 @@
 //! The judge on damaged memories, beside the sound memory of the same scenario.
 
-use super::{ratio, Bar};
-use crate::builder::Step;
-use crate::call::JUDGE;
-use crate::damaged::{damaged, Damaged};
+use super::bar::{ratio, Bar};
+use crate::damaged::Damaged;
+use crate::kernel::{KernelCall, Step, Tree};
 use crate::measure::{Bench, Place, Row, Times};
 use crate::patch::Patch;
-use crate::scenario::Scenario;
 use crate::table::Table;
 
 /// "damaged memory never costs more than twice the sound memory of that size"
@@ -20,11 +18,17 @@ pub struct Damages {
 
 impl Damages {
     /// The judge is measured already on the sound memory, which is at the place. A damaged one has a place of its own where it differs in much.
-    pub fn of(scenario: &Scenario, sound: Row, place: Place, bench: &mut Bench) -> Damages {
-        let damaged = damaged(&scenario.whole).into_iter().map(|Damaged { name, words }| {
-            let before = Patch::between(&words, &scenario.whole);
+    pub fn of<T: Tree>(
+        tree: &T,
+        damaged: Vec<Damaged>,
+        sound: Row,
+        place: Place,
+        bench: &mut Bench<T::Call>,
+    ) -> Damages {
+        let damaged = damaged.into_iter().map(|Damaged { name, words }| {
+            let before = Patch::between(&words, tree.whole());
             let row = if before.count() < words.len() / 8 {
-                bench.add(&Step { call: JUDGE, before }, place)
+                bench.add(&Step::judge(before), place)
             } else {
                 let own = bench.memory(words);
                 bench.judge(own)
@@ -32,10 +36,10 @@ impl Damages {
             assert_eq!(bench.answer(row), Err(1), "{name}");
             (name, row)
         });
-        Damages { title: scenario.title(), damaged: damaged.collect(), sound }
+        Damages { title: tree.title(), damaged: damaged.collect(), sound }
     }
 
-    fn shares<'a>(&'a self, bench: &'a Bench) -> impl Iterator<Item = (&'static str, Times)> + 'a {
+    fn shares<'a, C: KernelCall>(&'a self, bench: &'a Bench<C>) -> impl Iterator<Item = (&'static str, Times)> + 'a {
         let sound = bench.times(self.sound);
         self.damaged.iter().map(move |&(name, row)| {
             let times = bench.times(row);
@@ -45,7 +49,7 @@ impl Damages {
 }
 
 /// A kind of damage in a line, a scenario in a column.
-pub fn table(all: &[Damages], bench: &Bench) -> Table {
+pub fn table<C: KernelCall>(all: &[Damages], bench: &Bench<C>) -> Table {
     let head: Vec<&str> = std::iter::once("").chain(all.iter().map(|damages| damages.title.as_str())).collect();
     let title = "Damaged memory's cost over the sound one's, and in brackets the ordinary version's";
     let mut table = Table::new(title, &head);
@@ -61,7 +65,12 @@ pub fn table(all: &[Damages], bench: &Bench) -> Table {
 }
 
 /// The judge on each of them, and further figures of calls on damaged memory.
-pub fn bar(name: String, all: &[Damages], calls: impl Iterator<Item = (f64, String)>, bench: &Bench) -> Bar {
+pub fn bar<C: KernelCall>(
+    name: String,
+    all: &[Damages],
+    calls: impl Iterator<Item = (f64, String)>,
+    bench: &Bench<C>,
+) -> Bar {
     let figures = all.iter().flat_map(|damages| {
         damages.shares(bench).map(|(name, share)| (share.proved, format!("{}: {name}", damages.title)))
     });

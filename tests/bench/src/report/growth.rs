@@ -1,98 +1,96 @@
-//! How the judge's cost grows with the number of kernel pages.
+//! How the judge's cost grows with what is judged.
 
-use super::{ratio, whole, Bar};
+use super::bar::{ratio, whole, Bar};
+use crate::kernel::KernelCall;
 use crate::measure::{Bench, Row};
-use crate::scenario::*;
 use crate::table::Table;
-use second::geometry::{Edition, LARGE};
 
-/// "per page within a factor 2 from 16 to 256"; with large pages from 16 to 4,096.
+/// "per page within a factor 2"
 const MOST: f64 = 2.0;
 /// Times on several memories are compared, not of both versions on one: the least time has to be found on each.
 const FAVOUR: u32 = 4;
 
-/// The same shape at each size: kernel pages grow with the memory.
-const RECIPES: [Recipe; 4] = [deep, broad, broad_falling, bare];
-/// Few kernel pages and many mappings, more of them the more pages there are.
-const OTHERS: [Recipe; 3] = [one_child, deep_few_tables, broad_few_tables];
-
-fn sizes(edition: Edition) -> &'static [usize] {
-    if edition == LARGE {
-        &[16, 256, 1024, 4096]
-    } else {
-        &[16, 32, 73, 128, 256]
-    }
+/// What a memory's size is counted in, and what the judge's cost is divided by.
+#[derive(Clone, Copy)]
+pub struct Units {
+    pub size: &'static str,
+    pub part: &'static str,
+    pub parts: &'static str,
 }
 
 /// The judge on one memory.
-struct Size {
+pub struct Size {
     name: String,
-    pages: usize,
-    kernel: usize,
-    mappings: usize,
+    size: usize,
+    counts: Vec<(&'static str, usize)>,
+    parts: usize,
     judge: Row,
 }
 
 impl Size {
-    fn of(recipe: Recipe, edition: Edition, pages: usize, bench: &mut Bench) -> Size {
-        let Scenario { name, whole, .. } = recipe(edition, pages);
-        let (kernel, mappings, place) = (kernel_pages(&whole), mappings(&whole), bench.memory(whole));
-        let (name, judge) = (format!("{}{name}", prefix(edition)), bench.judge(place));
+    pub fn of<C: KernelCall>(name: String, size: usize, parts: usize, words: Vec<u32>, bench: &mut Bench<C>) -> Size {
+        let (counts, place) = (C::counts(&words), bench.memory(words));
+        let judge = bench.judge(place);
         bench.favour(judge, FAVOUR);
-        Size { name, pages, kernel, mappings, judge }
+        Size { name, size, counts, parts, judge }
     }
 
-    fn per_page(&self, bench: &Bench) -> f64 {
-        bench.times(self.judge).proved / self.kernel as f64
+    fn per_part<C: KernelCall>(&self, bench: &Bench<C>) -> f64 {
+        bench.times(self.judge).proved / self.parts as f64
     }
 }
 
 pub struct Growth {
-    recipes: Vec<Vec<Size>>,
-    others: Vec<Size>,
+    pub units: Units,
+    /// Of each recipe the same shape at each size: what is judged grows with the memory.
+    pub recipes: Vec<Vec<Size>>,
+    /// Shapes to which the bar is not applied.
+    pub others: Vec<Size>,
 }
 
 impl Growth {
-    pub fn new(edition: Edition, bench: &mut Bench) -> Growth {
-        let mut size = |recipe, pages| Size::of(recipe, edition, pages, bench);
-        let recipes = RECIPES.map(|recipe| sizes(edition).iter().map(|&pages| size(recipe, pages)).collect());
-        let others = OTHERS.map(|recipe| size(recipe, edition.most_pages()));
-        Growth { recipes: recipes.into(), others: others.into() }
-    }
-
-    pub fn tables(&self, bench: &Bench) -> [Table; 2] {
+    pub fn tables<C: KernelCall>(&self, bench: &Bench<C>) -> [Table; 2] {
+        let grows = format!("The judge as {} grow", self.units.parts);
         [
-            table("The judge as kernel pages grow", self.recipes.iter().flatten(), bench),
-            table("The judge on trees of other shapes, to which the bar is not applied", self.others.iter(), bench),
+            self.table(&grows, self.recipes.iter().flatten(), bench),
+            self.table(
+                "The judge on trees of other shapes, to which the bar is not applied",
+                self.others.iter(),
+                bench,
+            ),
         ]
     }
 
-    /// For each recipe the greatest cost per kernel page over the least.
-    pub fn bars(&self, bench: &Bench) -> Vec<Bar> {
+    fn table<'a, C: KernelCall>(&self, title: &str, sizes: impl Iterator<Item = &'a Size>, bench: &Bench<C>) -> Table {
+        let (per, sizes): (_, Vec<&Size>) = (format!("per {}", self.units.part), sizes.collect());
+        let counts = sizes.iter().take(1).flat_map(|size| size.counts.iter().map(|&(name, _)| name));
+        let times = ["judge", &per, "ordinary", "ratio"];
+        let head: Vec<&str> = ["tree", self.units.size].into_iter().chain(counts).chain(times).collect();
+        let mut table = Table::new(title, &head);
+        for size in sizes {
+            let times = bench.times(size.judge);
+            let counts = size.counts.iter().map(|(_, count)| count.to_string());
+            let cells = [
+                whole(times.proved),
+                format!("{:.1}", size.per_part(bench)),
+                format!("{:.1}", times.ordinary / size.parts as f64),
+                ratio(times.ratio()),
+            ];
+            table
+                .rows
+                .push([size.name.clone(), size.size.to_string()].into_iter().chain(counts).chain(cells).collect());
+        }
+        table
+    }
+
+    /// For each recipe the greatest cost per part over the least.
+    pub fn bars<C: KernelCall>(&self, bench: &Bench<C>) -> Vec<Bar> {
         let bar = |sizes: &Vec<Size>| {
-            let least = sizes.iter().map(|size| size.per_page(bench)).fold(f64::INFINITY, f64::min);
-            let figures = sizes.iter().map(|size| (size.per_page(bench) / least, format!("{} pages", size.pages)));
-            Bar::new(format!("per kernel page, {}", sizes[0].name), MOST, figures)
+            let least = sizes.iter().map(|size| size.per_part(bench)).fold(f64::INFINITY, f64::min);
+            let place = |size: &Size| format!("{} {}", size.size, self.units.size);
+            let figures = sizes.iter().map(|size| (size.per_part(bench) / least, place(size)));
+            Bar::new(format!("per {}, {}", self.units.part, sizes[0].name), MOST, figures)
         };
         self.recipes.iter().map(bar).collect()
     }
-}
-
-fn table<'a>(title: &str, sizes: impl Iterator<Item = &'a Size>, bench: &Bench) -> Table {
-    let head = ["tree", "pages", "kernel pages", "mappings", "judge", "per kernel page", "ordinary", "ratio"];
-    let mut table = Table::new(title, &head);
-    for size in sizes {
-        let times = bench.times(size.judge);
-        table.row([
-            size.name.clone(),
-            size.pages.to_string(),
-            size.kernel.to_string(),
-            size.mappings.to_string(),
-            whole(times.proved),
-            format!("{:.1}", size.per_page(bench)),
-            format!("{:.1}", times.ordinary / size.kernel as f64),
-            ratio(times.ratio()),
-        ]);
-    }
-    table
 }

@@ -1,20 +1,10 @@
 //! Sound memories that guided random calls lead to: those on which the judge is slowest beside the ordinary version.
 
-use super::{ratio, whole};
+use super::bar::{ratio, whole};
+use crate::kernel::KernelCall;
 use crate::measure::{rough, Bench, Row};
-use crate::scenario::{kernel_pages, mappings, prefix};
 use crate::table::Table;
-use second::geometry::{Edition, LARGE};
-use second::make::guide;
 use second::random::Random;
-
-fn sizes(edition: Edition) -> &'static [usize] {
-    if edition == LARGE {
-        &[16, 32]
-    } else {
-        &[16, 32, 73, 128, 256]
-    }
-}
 
 /// Sequences of each size, the calls of each, and how many of them lie between two memories.
 const SEQUENCES: u32 = 10;
@@ -23,65 +13,69 @@ const APART: usize = 40;
 /// How many memories of each size are measured well.
 const KEPT: usize = 4;
 
+/// Makes so many guided calls from format on in a memory of this size, and shows the memory after each.
+pub type Guide<'a> = &'a dyn Fn(usize, &mut Random, usize, &mut dyn FnMut(&[u32]));
+
 struct Memory {
-    /// Edition and number of pages.
+    /// The size as it is told.
     size: String,
-    kernel: usize,
-    mappings: usize,
+    counts: Vec<(&'static str, usize)>,
     judge: Row,
 }
 
 pub struct Guided(Vec<Vec<Memory>>);
 
 impl Guided {
-    pub fn new(edition: Edition, bench: &mut Bench) -> Guided {
-        let mut measured = |pages: usize, words: Vec<u32>| {
-            let (kernel, mappings, place) = (kernel_pages(&words), mappings(&words), bench.memory(words));
-            Memory { size: format!("{}{pages}", prefix(edition)), kernel, mappings, judge: bench.judge(place) }
+    /// A size is told with these words before it.
+    pub fn new<C: KernelCall>(prefix: &str, sizes: &[usize], guide: Guide, bench: &mut Bench<C>) -> Guided {
+        let mut measured = |size: usize, words: Vec<u32>| {
+            let (counts, place) = (C::counts(&words), bench.memory(words));
+            Memory { size: format!("{prefix}{size}"), counts, judge: bench.judge(place) }
         };
-        let slowest = sizes(edition).iter().map(|&pages| {
-            let words = slowest(edition, pages).into_iter();
-            words.map(|words| measured(pages, words)).collect()
+        let slowest = sizes.iter().map(|&size| {
+            let words = slowest::<C>(size, guide).into_iter();
+            words.map(|words| measured(size, words)).collect()
         });
         Guided(slowest.collect())
     }
 
     /// The slowest of each size, with its ratio.
-    fn slowest<'a>(&'a self, bench: &'a Bench) -> impl Iterator<Item = (f64, &'a Memory)> + 'a {
+    fn slowest<'a, C: KernelCall>(&'a self, bench: &'a Bench<C>) -> impl Iterator<Item = (f64, &'a Memory)> + 'a {
         let ratio = |memory: &'a Memory| (bench.times(memory.judge).ratio(), memory);
         self.0.iter().filter_map(move |size| size.iter().map(ratio).max_by(|one, other| one.0.total_cmp(&other.0)))
     }
 
-    pub fn figures<'a>(&'a self, bench: &'a Bench) -> impl Iterator<Item = (f64, String)> + 'a {
+    pub fn figures<'a, C: KernelCall>(&'a self, bench: &'a Bench<C>) -> impl Iterator<Item = (f64, String)> + 'a {
         self.slowest(bench).map(|(figure, memory)| (figure, format!("{} after guided calls: the judge", memory.size)))
     }
 
-    pub fn table(&self, bench: &Bench) -> Table {
+    /// The unit of the sizes heads their column.
+    pub fn table<C: KernelCall>(&self, unit: &str, bench: &Bench<C>) -> Table {
         let count = SEQUENCES as usize * CALLS.div_ceil(APART);
         let title = format!(
             "The judge after guided calls: of {count} memories of each size the slowest beside the ordinary version"
         );
-        let mut table = Table::new(title, &["pages", "kernel pages", "mappings", "judge", "ordinary", "ratio"]);
+        let counts = self.0.iter().flatten().take(1).flat_map(|memory| memory.counts.iter().map(|&(name, _)| name));
+        let head: Vec<&str> = std::iter::once(unit).chain(counts).chain(["judge", "ordinary", "ratio"]).collect();
+        let mut table = Table::new(title, &head);
         for (figure, memory) in self.slowest(bench) {
             let times = bench.times(memory.judge);
-            let [kernel, mappings] = [memory.kernel, memory.mappings].map(|count| count.to_string());
-            let [proved, ordinary] = [times.proved, times.ordinary].map(whole);
-            table.row([memory.size.clone(), kernel, mappings, proved, ordinary, ratio(figure)]);
+            let counts = memory.counts.iter().map(|(_, count)| count.to_string());
+            let cells = [whole(times.proved), whole(times.ordinary), ratio(figure)];
+            table.rows.push(std::iter::once(memory.size.clone()).chain(counts).chain(cells).collect());
         }
         table
     }
 }
 
 /// The memories of a size that seem slowest at a short look.
-fn slowest(edition: Edition, pages: usize) -> Vec<Vec<u32>> {
+fn slowest<C: KernelCall>(size: usize, guide: Guide) -> Vec<Vec<u32>> {
     let mut met = Vec::new();
     for seed in 0..SEQUENCES {
-        let mut words = vec![0; edition.page_words() * pages];
-        let _ = second::calls::format(&mut words, edition.number);
         let mut calls = 0;
-        guide(&mut words, &mut Random::new(900 + seed), CALLS, |_, _, memory| {
+        guide(size, &mut Random::new(900 + seed), CALLS, &mut |memory| {
             if calls % APART == 0 {
-                met.push((rough(memory).ratio(), memory.to_vec()));
+                met.push((rough::<C>(memory).ratio(), memory.to_vec()));
             }
             calls += 1;
         });

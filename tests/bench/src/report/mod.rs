@@ -1,62 +1,41 @@
-//! What is measured, in tables, and the bars that it is held to.
+//! What is measured of the page kernel, in tables, and the bars that it is held to; and the tables that both kernels share.
 
-mod calls;
+pub mod bar;
+pub mod calls;
 mod contexts;
-mod damaged;
-mod deleting;
-mod growth;
-mod guided;
+pub mod damaged;
+pub mod deleting;
+pub mod growth;
+pub mod guided;
+pub mod memories;
 pub mod stack;
 mod wiping;
 
-use crate::measure::Bench;
+use crate::call::Call;
+use crate::damaged::damaged;
+use crate::measure;
 use crate::scenario::*;
 use crate::table::Table;
+use bar::{verdicts, Bar};
 use calls::Calls;
 use contexts::Contexts;
 use damaged::Damages;
-use deleting::Deleting;
-use growth::Growth;
+use deleting::{ending, Deleting};
+use growth::{Growth, Size, Units};
 use guided::Guided;
 use second::geometry::{Edition, EDITIONS, LARGE};
+use second::make::guide;
+use second::memory::words_of;
 use stack::Stack;
 use std::time::Duration;
 use wiping::Wiping;
+
+type Bench = measure::Bench<Call>;
 
 /// "no call slower than 2.0 times the ordinary Rust version at any size"
 const MOST: f64 = 2.0;
 /// In a memory of more pages the judge hides what wiping costs.
 const MOST_WIPED: usize = 256;
-
-/// A figure that may not be above its bar, and where it was found.
-pub struct Bar {
-    pub name: String,
-    pub figure: f64,
-    pub most: f64,
-    pub place: String,
-}
-
-impl Bar {
-    /// The greatest of the figures.
-    fn new(name: impl Into<String>, most: f64, figures: impl Iterator<Item = (f64, String)>) -> Bar {
-        let (figure, place) = figures.max_by(|one, other| one.0.total_cmp(&other.0)).expect("a figure");
-        Bar { name: name.into(), figure, most, place }
-    }
-
-    pub fn holds(&self) -> bool {
-        self.figure <= self.most
-    }
-}
-
-/// A share or a ratio.
-fn ratio(figure: f64) -> String {
-    format!("{figure:.2}")
-}
-
-/// Nanoseconds.
-fn whole(time: f64) -> String {
-    format!("{time:.0}")
-}
 
 pub struct Report {
     /// Each call in each scenario.
@@ -107,6 +86,49 @@ fn scenarios(edition: Edition) -> Vec<Scenario> {
     recipes.iter().map(|(recipe, pages)| recipe(edition, *pages)).collect()
 }
 
+/// The recipes whose kernel pages grow with the memory, at several sizes; and those of few kernel pages and many mappings, more of them the more pages there
+/// are.
+fn growth(edition: Edition, bench: &mut Bench) -> Growth {
+    let sizes: &[usize] = if edition == LARGE { &[16, 256, 1024, 4096] } else { &[16, 32, 73, 128, 256] };
+    let mut size = |recipe: Recipe, pages| {
+        let Scenario { name, whole, .. } = recipe(edition, pages);
+        Size::of(format!("{}{name}", prefix(edition)), pages, kernel_pages(&whole), whole, bench)
+    };
+    let recipes: [Recipe; 4] = [deep, broad, broad_falling, bare];
+    let others: [Recipe; 3] = [one_child, deep_few_tables, broad_few_tables];
+    Growth {
+        units: Units { size: "pages", part: "kernel page", parts: "kernel pages" },
+        recipes: recipes.map(|recipe| sizes.iter().map(|&pages| size(recipe, pages)).collect()).into(),
+        others: others.map(|recipe| size(recipe, edition.most_pages())).into(),
+    }
+}
+
+fn guided(edition: Edition, bench: &mut Bench) -> Guided {
+    let sizes: &[usize] = if edition == LARGE { &[16, 32] } else { &[16, 32, 73, 128, 256] };
+    let guide: guided::Guide = &|pages, random, calls, show| {
+        let mut words = vec![0; edition.page_words() * pages];
+        let _ = second::calls::format(&mut words, edition.number);
+        guide(&mut words, random, calls, |_, _, memory| show(memory));
+    };
+    Guided::new(prefix(edition), sizes, guide, bench)
+}
+
+/// Children to which many pages were lent.
+fn deletings(edition: Edition, bench: &mut Bench) -> Vec<Deleting> {
+    let sizes: &[usize] = if edition == LARGE { &[256, 4096] } else { &[256] };
+    let scenarios = LENT.iter().flat_map(|recipe| sizes.iter().map(move |&pages| recipe(edition, pages)));
+    let deleting = |scenario: Scenario| {
+        let step = ending(&scenario);
+        let mut memory = step.memory(&scenario.whole);
+        let lent = lent_pages(&memory, step.call.arguments[0]);
+        let _ = step.call.trusting(&mut memory);
+        // All zeros afterwards; before, each that is no kernel page has another word.
+        let wiped = lent.iter().filter(|own| words_of(&memory, own.page).iter().all(|&word| word == 0)).count();
+        Deleting::of(&scenario, vec![("lent", lent.len()), ("wiped", wiped)], lent.len(), bench)
+    };
+    scenarios.map(deleting).collect()
+}
+
 /// What is measured in the scenarios of an edition.
 struct Measured {
     edition: Edition,
@@ -129,7 +151,7 @@ impl Measured {
             if scenario.pages() <= MOST_WIPED {
                 wiping.push(Wiping::of(&scenario, &measured, place, bench));
             }
-            damages.push(Damages::of(&scenario, measured.judge, place, bench));
+            damages.push(Damages::of(&scenario, damaged(&scenario.whole), measured.judge, place, bench));
             calls.push(measured);
         }
         let stacks = stack::sizes(edition).iter().map(|&pages| Stack::measure(edition, pages)).collect();
@@ -137,21 +159,22 @@ impl Measured {
             edition,
             calls,
             wiping,
-            deleting: Deleting::all(edition, bench),
+            deleting: deletings(edition, bench),
             contexts: Contexts::all(edition, bench),
             damages,
             stacks,
-            growth: Growth::new(edition, bench),
-            guided: Guided::new(edition, bench),
+            growth: growth(edition, bench),
+            guided: guided(edition, bench),
         }
     }
 
     /// The tables that are short enough for a document.
     fn short(&self, bench: &Bench) -> Vec<Table> {
-        let mut short = vec![calls::summary(&self.calls, bench), self.guided.table(bench)];
+        let mut short = vec![calls::summary(&self.calls, bench), self.guided.table("pages", bench)];
         short.extend(self.growth.tables(bench));
         short.push(wiping::table(&self.wiping, bench));
-        short.push(deleting::table(&self.deleting, bench));
+        let title = "deletePartition of a child to which many pages were lent, the whole call and less the judge";
+        short.push(deleting::table(title, "lent page", &self.deleting, bench));
         if !self.contexts.is_empty() {
             short.push(contexts::table(&self.contexts, bench));
         }
@@ -189,13 +212,4 @@ impl Report {
         let stack = measured.iter().flat_map(|measured| &measured.stacks).map(Stack::table).collect();
         Report { calls, stack, short, bars }
     }
-}
-
-fn verdicts(bars: &[Bar]) -> Table {
-    let mut table = Table::new("Bars", &["bar", "at most", "figure", "where", ""]);
-    for bar in bars {
-        let verdict = if bar.holds() { "pass" } else { "MISS" };
-        table.row([bar.name.clone(), ratio(bar.most), ratio(bar.figure), bar.place.clone(), verdict.to_string()]);
-    }
-    table
 }

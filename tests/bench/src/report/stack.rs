@@ -1,23 +1,19 @@
 //! The stack that each function takes on a tree of each depth.
 
-use super::Bar;
-use crate::builder::{Step, WAYS};
-use crate::call::{Call, JUDGE, NAMES};
+use super::bar::Bar;
+use super::memories::Memories;
+use crate::builder::WAYS;
+use crate::call::{Call, Step, NAMES};
+use crate::kernel::Tree;
 use crate::library;
 use crate::patch::Patch;
 use crate::scenario::{down_to, prefix, Scenario, MOST_DEPTH};
 use crate::table::Table;
-use second::damage::wide_damage;
 use second::geometry::{Edition, LARGE};
-use second::random::Random;
 use second::record::{LENGTH, REVISION};
 
 /// Kibibytes: what include/tumashqin.h says.
 const MOST: f64 = 4.0;
-/// Random damages of the tree of each depth: so many, but in a large memory fewer, so that about as many words are judged.
-const DAMAGES: usize = 300;
-const LEAST_DAMAGES: usize = 10;
-const MOST_WORDS: usize = DAMAGES << 14;
 /// The places of these two among the lines.
 const ON_JUDGE: usize = 0;
 const ON_DAMAGED: usize = 1;
@@ -101,16 +97,15 @@ impl Stack {
 /// Every function on the tree of a scenario, and the judge on damages of it.
 fn functions(scenario: &Scenario) -> Vec<(String, Option<usize>)> {
     let whole = &scenario.whole;
-    let mut memories = Memories { whole, after: whole.clone(), other: whole.clone() };
-    let judge = Step { call: JUDGE, before: Patch::default() };
+    let mut memories = Memories::of(scenario);
     let mut all = vec![
-        ("the judge".to_string(), Some(memories.on(&judge))),
+        ("the judge".to_string(), Some(memories.on(&Step::judge(Patch::default())))),
         ("the judge on damaged memory".to_string(), memories.damages()),
     ];
     for (number, name) in (0..).zip(NAMES) {
         let format = Step { call: Call::new(0, &[scenario.edition.number]), before: Patch::default() };
-        let passing = if number == 0 { Some(&format) } else { scenario.last(number) };
-        let refused = scenario.refused.iter().find(|step| step.call.number == number);
+        let passing = if number == 0 { Some(&format) } else { scenario.passing(number) };
+        let refused = scenario.refused(number);
         all.push((name.to_string(), passing.map(|step| memories.on(step))));
         if number > 0 {
             all.push((format!("{name}, refused"), refused.map(|step| memories.on(step))));
@@ -121,38 +116,6 @@ fn functions(scenario: &Scenario) -> Vec<(String, Option<usize>)> {
     }
     all.extend(records(whole, scenario.edition).map(|(name, bytes)| (name.to_string(), Some(bytes))));
     all
-}
-
-/// The whole tree's memory, and two like it that calls are made on.
-struct Memories<'a> {
-    whole: &'a [u32],
-    after: Vec<u32>,
-    other: Vec<u32>,
-}
-
-impl Memories<'_> {
-    /// A call, which has to do what the ordinary version does.
-    fn on(&mut self, Step { call, before }: &Step) -> usize {
-        let Memories { whole, after, other } = self;
-        for memory in [&mut *after, &mut *other] {
-            memory.copy_from_slice(whole);
-            before.apply(memory);
-        }
-        let (answer, bytes) = library::call(call, after);
-        assert_eq!(answer, call.ordinary(other), "{call:?}");
-        assert!(after == other, "{call:?}");
-        bytes
-    }
-
-    fn damages(&mut self) -> Option<usize> {
-        let mut random = Random::new(13);
-        let count = (MOST_WORDS / self.whole.len()).clamp(LEAST_DAMAGES, DAMAGES);
-        let damaged = (0..count).map(|_| {
-            let before = Patch::of(&wide_damage(self.whole, &mut random));
-            self.on(&Step { call: JUDGE, before })
-        });
-        damaged.max()
-    }
 }
 
 /// The record's writer where it passes and where it is refused after the judgement, and its readers.

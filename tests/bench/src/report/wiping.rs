@@ -1,10 +1,11 @@
 //! Wiping a page: createPartition takes five pages, and deletePartition returns a child's and those lent to it, each wiped; the judge's cost is taken off.
 
+use super::bar::ratio;
 use super::calls::Calls;
-use super::ratio;
-use crate::builder::Step;
-use crate::call::JUDGE;
-use crate::measure::{Bench, Place, Row};
+use super::Bench;
+use crate::call::Step;
+use crate::kernel::{KernelCall, Tree};
+use crate::measure::{Place, Row};
 use crate::scenario::{kernel_pages, lent_pages, Scenario};
 use crate::table::Table;
 
@@ -23,7 +24,7 @@ impl Wiped {
         let lent = lent_pages(&memory, step.call.arguments[0]).iter().filter(|own| own.accessible).count();
         let _ = step.call.ordinary(&mut memory);
         let pages = before.abs_diff(kernel_pages(&memory)) + lent;
-        Wiped { pages, call, judge: bench.add(&Step { call: JUDGE, before: step.before.clone() }, place) }
+        Wiped { pages, call, judge: bench.add(&Step::judge(step.before.clone()), place) }
     }
 
     /// For each page, with all else that the call does after the judgement. A ratio only where both differences are above the clock's noise.
@@ -47,7 +48,7 @@ impl Wiping {
     /// The calls are measured already, on the scenario's whole memory, which is at the place.
     pub fn of(scenario: &Scenario, calls: &Calls, place: Place, bench: &mut Bench) -> Wiping {
         let mut wiped = |number| {
-            let measured = scenario.last(number).zip(calls.passing(number));
+            let measured = scenario.passing(number).zip(calls.passing(number));
             let (step, call) = measured.expect("a child that is made and ended");
             Wiped::of(step, call, scenario, place, bench)
         };

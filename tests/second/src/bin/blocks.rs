@@ -6,11 +6,14 @@ use second::blocks::cover::Cover;
 use second::blocks::damage::{applied, damage};
 use second::blocks::geometry::words_of_kib;
 use second::blocks::make::make;
+use second::blocks::runs::runs;
 use second::blocks::sound::broken;
 use second::random::Random;
+use second::words::{hash64, of_bytes};
 use std::io::{self, BufWriter, Read, Write};
 
-const USAGE: &str = "blocks make SEED COUNT KIB | blocks run | blocks cover | blocks damage SEED COUNT | blocks judge | blocks dump | blocks facts";
+const USAGE: &str = "blocks make SEED COUNT KIB | blocks run | blocks cover | blocks damage SEED COUNT | blocks judge | blocks dump | blocks facts \
+    | blocks runs [cover]";
 
 /// A number of words and the calls behind the first format, each a call number and its arguments.
 struct Sequence {
@@ -30,6 +33,8 @@ fn main() {
         ["judge"] => print_broken(&mut out),
         ["dump"] => read().and_then(|sequences| dump(&sequences, &mut out)),
         ["facts"] => read().and_then(|sequences| facts(&sequences, &mut out)),
+        ["runs"] => print_runs(&mut out),
+        ["runs", "cover"] => print_runs_cover(&mut out),
         _ => Err(io::Error::other(USAGE)),
     };
     // 1 where something is not as it has to be, 2 where the input is bad.
@@ -108,16 +113,10 @@ fn run(sequences: &[Sequence], out: &mut impl Write) -> io::Result<bool> {
         perform_all(sequence, |_, Said { answer, told }, _, _, mem| {
             let answer = answer.map_or_else(|refusal| format!("no {refusal}"), |word| format!("ok {word}"));
             let told: Vec<_> = told.into_iter().flatten().map(|word| format!("{word} ")).collect();
-            writeln!(out, "{answer} {}{:016x}", told.concat(), hash(mem))
+            writeln!(out, "{answer} {}{:016x}", told.concat(), hash64(mem))
         })?;
     }
     Ok(true)
-}
-
-/// FNV-1a of 64 bits over the words as little-endian bytes.
-fn hash(mem: &[u32]) -> u64 {
-    let bytes = mem.iter().flat_map(|word| word.to_le_bytes());
-    bytes.fold(0xcbf2_9ce4_8422_2325, |hash, byte| (hash ^ u64::from(byte)).wrapping_mul(0x100_0000_01b3))
 }
 
 fn print_made(seed: &str, count: &str, kib: &str, out: &mut impl Write) -> io::Result<bool> {
@@ -141,10 +140,27 @@ fn cover(sequences: &[Sequence], out: &mut impl Write) -> io::Result<bool> {
             Ok(())
         })?;
     }
+    print_cover(&cover, out)
+}
+
+fn print_cover(cover: &Cover, out: &mut impl Write) -> io::Result<bool> {
     writeln!(out, "{cover}")?;
     let missing = cover.missing();
     missing.iter().try_for_each(|name| writeln!(out, "NOT COVERED {name}"))?;
     Ok(missing.is_empty())
+}
+
+/// What the program block_runs writes for its input on standard input (tests/runs).
+fn print_runs(out: &mut impl Write) -> io::Result<bool> {
+    let (lines, _) = runs(read_words()?);
+    write!(out, "{lines}")?;
+    Ok(true)
+}
+
+/// What its calls cover.
+fn print_runs_cover(out: &mut impl Write) -> io::Result<bool> {
+    let (_, cover) = runs(read_words()?);
+    print_cover(&cover, out)
 }
 
 /// Damages fresh copies of the final memory.
@@ -169,12 +185,16 @@ fn print_damaged(seed: &str, count: &str, out: &mut impl Write) -> io::Result<bo
     Ok(true)
 }
 
-/// The broken sentences of the memory on standard input, little-endian words.
-fn print_broken(out: &mut impl Write) -> io::Result<bool> {
+/// Standard input as little-endian words.
+fn read_words() -> io::Result<Vec<u32>> {
     let mut bytes = Vec::new();
     io::stdin().lock().read_to_end(&mut bytes)?;
-    let mem: Vec<u32> = bytes.chunks_exact(4).map(|b| u32::from_le_bytes([b[0], b[1], b[2], b[3]])).collect();
-    writeln!(out, "{:?}", broken(&mem))?;
+    Ok(of_bytes(&bytes))
+}
+
+/// The broken sentences of the memory on standard input.
+fn print_broken(out: &mut impl Write) -> io::Result<bool> {
+    writeln!(out, "{:?}", broken(&read_words()?))?;
     Ok(true)
 }
 

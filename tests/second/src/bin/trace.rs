@@ -11,6 +11,7 @@ use second::record;
 use second::refusal::DAMAGED;
 use second::replay::replay;
 use second::sound::{broken, sound};
+use second::words::{hash32, hash64, of_bytes};
 use std::io::{self, BufWriter, Read, Write};
 
 const USAGE: &str =
@@ -71,7 +72,7 @@ fn print_sizes(chosen: &str, out: &mut impl Write) -> io::Result<()> {
 fn read_words() -> io::Result<Vec<u32>> {
     let mut bytes = Vec::new();
     io::stdin().lock().read_to_end(&mut bytes)?;
-    Ok(bytes.chunks_exact(4).map(|b| u32::from_le_bytes([b[0], b[1], b[2], b[3]])).collect())
+    Ok(of_bytes(&bytes))
 }
 
 /// How many numbers of answers the program `runs` lends to the run of a part.
@@ -140,11 +141,6 @@ fn numbers_of(number: u32) -> usize {
     }
 }
 
-/// FNV-1a of 32 bits over whole words.
-fn hash32(words: impl Iterator<Item = u32>) -> u32 {
-    words.fold(2_166_136_261, |hash, word| (hash ^ word).wrapping_mul(16_777_619))
-}
-
 fn number(word: &str) -> io::Result<u32> {
     word.parse().map_err(|_| io::Error::other(format!("bad number: {word}")))
 }
@@ -191,7 +187,7 @@ fn perform_all(file: &File, mut show: impl FnMut(u32, Said, &[u32]) -> io::Resul
 fn run(file: &File, out: &mut impl Write) -> io::Result<()> {
     perform_all(file, |_, Said { answer, context }, mem| {
         let words: Vec<_> = context.into_iter().flatten().map(|word| format!("{word} ")).collect();
-        writeln!(out, "{} {}{:016x}", shown(answer), words.concat(), hash(mem))
+        writeln!(out, "{} {}{:016x}", shown(answer), words.concat(), hash64(mem))
     })?;
     Ok(())
 }
@@ -204,12 +200,6 @@ fn shown(answer: Answer) -> String {
 fn dump(file: &File, out: &mut impl Write) -> io::Result<()> {
     let mem = perform_all(file, |_, _, _| Ok(()))?;
     mem.iter().try_for_each(|word| out.write_all(&word.to_le_bytes()))
-}
-
-/// FNV-1a of 64 bits over the words as little-endian bytes.
-fn hash(mem: &[u32]) -> u64 {
-    let bytes = mem.iter().flat_map(|word| word.to_le_bytes());
-    bytes.fold(0xcbf2_9ce4_8422_2325, |hash, byte| (hash ^ u64::from(byte)).wrapping_mul(0x100_0000_01b3))
 }
 
 fn print_made(seed: &str, count: &str, pages: &str, chosen: &str, out: &mut impl Write) -> io::Result<()> {

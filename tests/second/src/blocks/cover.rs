@@ -4,6 +4,7 @@ use super::calls::{Answer, CALLS};
 use super::geometry::*;
 use super::memory::*;
 use super::refusal::*;
+use super::sound::sound;
 use std::fmt;
 
 /// Whether a call answers 0, whether it answers other numbers, and its refusals in the order of its row.
@@ -65,7 +66,7 @@ type Way = (&'static str, fn(&Met) -> bool);
 
 /// Every way has to be met.
 const WAYS: [Way; 74] = [
-    ("format again", |m| m.passed(0)),
+    ("format again", |m| m.passed(0) && sound(m.before)),
     ("format on a length not permitted", |m| m.number() == 0 && !m.permitted()),
     ("another call on a length not permitted", |m| m.number() != 0 && !m.permitted()),
     ("create where the start is no multiple of 4", |m| m.passed(1) && m.own(1).start % 4 != 0),
@@ -267,7 +268,7 @@ impl Default for Cover {
 }
 
 impl Cover {
-    /// Counts a call of a sequence, given the memory before it. The first format of a sequence is left out by whoever counts.
+    /// Counts a call, given the memory before it. Format again is one of a sound memory; whether the first of a sequence is counted is left to the caller.
     pub fn count(&mut self, before: &[u32], line: &[u32], answer: Answer) {
         self.answers[line[0] as usize][column(answer)] += 1;
         let met = Met { before, line, answer, here: Partition::current(before) };

@@ -56,6 +56,26 @@ pub fn damage(mem: &[u32], random: &mut Random) -> Changes {
     guided.filter(changed).unwrap_or_else(|| pools.words(random))
 }
 
+/// The words of two structures exchanged, of one partition or of two.
+pub fn structures_exchanged(mem: &[u32], random: &mut Random) -> Changes {
+    let structures = partitions(mem).into_iter().flat_map(|one| one.structures).map(|structure| structure.at);
+    exchanged(mem, &structures.collect::<Vec<_>>(), STRUCTURE_WORDS, random)
+}
+
+/// The words of two descriptors exchanged.
+pub fn descriptors_exchanged(mem: &[u32], random: &mut Random) -> Changes {
+    let descriptors = partitions(mem).into_iter().map(|one| one.at);
+    exchanged(mem, &descriptors.collect::<Vec<_>>(), DESCRIPTOR_WORDS, random)
+}
+
+/// So many words at two of these places exchanged; none where there is one place alone.
+fn exchanged(mem: &[u32], places: &[usize], words: usize, random: &mut Random) -> Changes {
+    let Some(first) = random.pick(places) else { return Vec::new() };
+    let others: Vec<usize> = places.iter().copied().filter(|&place| place != first).collect();
+    let Some(second) = random.pick(&others) else { return Vec::new() };
+    (0..words).flat_map(|i| [(first + i, word(mem, second + i)), (second + i, word(mem, first + i))]).collect()
+}
+
 struct Pools<'a> {
     mem: &'a [u32],
     geometry: Geometry,

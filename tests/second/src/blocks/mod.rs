@@ -8,4 +8,5 @@ pub mod geometry;
 pub mod make;
 pub mod memory;
 pub mod refusal;
+pub mod runs;
 pub mod sound;
