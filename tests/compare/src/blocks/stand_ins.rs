@@ -1,22 +1,21 @@
-//! Kernels that are wrong in one thing, tried by the comparison in place of the proved one: each is reported. The first four are those of docs/BLOCKS.md.
+//! Kernels that are wrong in one thing, tried by the comparison in place of the proved one: each is reported. Those of docs/BLOCKS.md are the second program's.
 
 use crate::kernel::{Call, Kernel, Tell, Verdict};
 use crate::round::round;
 use crate::tally::Tally;
-use second::blocks::calls::{end_partitions, join, perform, withdraw, Answer, Said, CALLS};
-use second::blocks::geometry::{DESCRIPTOR_WORDS, ENTRIES, STRUCTURE_WORDS};
+use second::blocks::calls::{Answer, Said, CALLS};
+use second::blocks::geometry::{DESCRIPTOR_WORDS, STRUCTURE_WORDS};
 use second::blocks::memory::*;
 use second::blocks::refusal::*;
 use second::blocks::sound::{broken, sound};
+use second::blocks::wrong::{
+    call, keeps_lent_enabled, leaves_descendants, merges_what_adjoins, removes_what_is_lent_on,
+};
 
 const ROUNDS: u32 = 40;
 
 /// The second program itself.
 const SECOND: Kernel = Kernel { call: &call, tell: &tell, verdict: &verdict };
-
-fn call(mem: &mut [u32], line: &[u32]) -> Said {
-    perform(mem, line[0], &line[1..]).unwrap_or_else(|| unreachable!("no such call: {line:?}"))
-}
 
 fn tell(mem: &[u32], line: &[u32], out: &mut [u32], length: usize) -> Answer {
     let said = call(&mut mem.to_vec(), line);
@@ -52,48 +51,6 @@ fn assert_reported(kernel: Kernel, call: &str, what: &str) {
 }
 
 // Programs that do another thing than the rules say.
-
-fn merges_what_adjoins(mem: &mut [u32], line: &[u32]) -> Said {
-    let (here, said) = (Partition::current(mem), call(mem, line));
-    let (&[8, one, other], Err(APART)) = (line, said.answer) else { return said };
-    let (one, other) = (here.slot(one), here.slot(other));
-    let two = [(one, other), (other, one)].into_iter().find(|(lower, higher)| lower.end == higher.start);
-    let Some((lower, higher)) = two else { return said };
-    join(mem, &here, &lower, &higher);
-    Said { answer: Ok(lower.number), ..said }
-}
-
-fn removes_what_is_lent_on(mem: &mut [u32], line: &[u32]) -> Said {
-    let (here, said) = (Partition::current(mem), call(mem, line));
-    let (&[6, number, block], Err(UNMERGED)) = (line, said.answer) else { return said };
-    let (child, block) = (Partition::read(mem, here.slot(number).place()), here.slot(block));
-    let first = child.slot(block.link);
-    let lent_on = child.blocks().any(|piece| piece.source == block.number && piece.usage == LENT);
-    if !first.in_hand() || !lent_on {
-        return said;
-    }
-    withdraw(mem, &child, &first, &block);
-    Said { answer: Ok(0), ..said }
-}
-
-fn leaves_descendants(mem: &mut [u32], line: &[u32]) -> Said {
-    let (here, before, said) = (Partition::current(mem), mem.to_vec(), call(mem, line));
-    if let (&[2, number], Ok(_)) = (line, said.answer) {
-        mem.copy_from_slice(&before);
-        let child = Partition::read(&before, here.slot(number).place());
-        end_partitions(mem, &here, number, &[child]);
-    }
-    said
-}
-
-fn keeps_lent_enabled(mem: &mut [u32], line: &[u32]) -> Said {
-    let (here, before, said) = (Partition::current(mem), mem.to_vec(), call(mem, line));
-    if let ([5, ..], Ok(_)) = (line, said.answer) {
-        let entries = here.at + BEFORE_ENTRIES + 1..here.at + BEFORE_ENTRIES + 1 + ENTRIES;
-        mem[entries.clone()].copy_from_slice(&before[entries]);
-    }
-    said
-}
 
 /// Wipes the block that it gives back, too.
 fn wipes_what_comes_back(mem: &mut [u32], line: &[u32]) -> Said {

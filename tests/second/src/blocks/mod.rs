@@ -10,3 +10,4 @@ pub mod memory;
 pub mod refusal;
 pub mod runs;
 pub mod sound;
+pub mod wrong;
