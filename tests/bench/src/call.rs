@@ -54,20 +54,10 @@ pub const DONE: Answer = Ok(Words::One(0));
 pub const MOST_ARGUMENTS: usize = 11;
 pub const RESUME: u32 = 15;
 
-/// A call's number, 0 for format and 16 for the verdict, and its arguments; those that it does not have are 0.
-#[derive(Clone, Copy, Debug)]
-pub struct Call {
-    pub number: u32,
-    pub arguments: [u32; MOST_ARGUMENTS],
-}
+/// Format is 0 and the verdict 16.
+pub type Call = kernel::Numbered<MOST_ARGUMENTS>;
 
 impl Call {
-    pub fn new(number: u32, given: &[u32]) -> Call {
-        let mut arguments = [0; MOST_ARGUMENTS];
-        arguments[..given.len()].copy_from_slice(given);
-        Call { number, arguments }
-    }
-
     /// The ordinary version without the judgement, for memory that is known to be sound.
     pub fn trusting(&self, words: &mut [u32]) -> Answer {
         if self.number == 0 {

@@ -32,6 +32,21 @@ pub trait KernelCall: Copy + Debug {
     fn damage(words: &[u32], random: &mut Random) -> Vec<(usize, u32)>;
 }
 
+/// A call's number and its arguments, at most so many; those that it does not have are 0.
+#[derive(Clone, Copy, Debug)]
+pub struct Numbered<const MOST: usize> {
+    pub number: u32,
+    pub arguments: [u32; MOST],
+}
+
+impl<const MOST: usize> Numbered<MOST> {
+    pub fn new(number: u32, given: &[u32]) -> Numbered<MOST> {
+        let mut arguments = [0; MOST];
+        arguments[..given.len()].copy_from_slice(given);
+        Numbered { number, arguments }
+    }
+}
+
 /// A call, and how the memory just before it differs from the whole tree's.
 #[derive(Clone)]
 pub struct Step<C> {
