@@ -175,8 +175,11 @@ def turn_text(path, text, tables):
             return re.sub(r"(?<![\w'-])[a-z][\w'-]*", lambda m: words.get(m[0], m[0]), t)
         return by(words, t)
 
-    text = outside(text, respell)
+    # a lemma that would have its definition's name, before the definition gets that name
     here = dict(lemmas.get(path, {}))
+    if here:
+        text = outside(text, lambda t: by(here, t, False))
+    text = outside(text, respell)
     imported = {}
     for m in USE.finditer(text):
         theirs = lemmas.get(module_path(m[2]), {})
@@ -192,7 +195,7 @@ def turn_text(path, text, tables):
         return text if not imported else outside(text, lambda t: re.sub(r"(?<![\w'-])[A-Za-z][\w'-]*", lambda m: imported.get(m[0], m[0]), t))
     if of_function(path):
         return outside(text, lambda t: by(imported, t, False))
-    return outside(text, lambda t: by({**imported, **here}, by(names, t), False))
+    return outside(text, lambda t: by(imported, by(names, t), False))
 
 
 def main(argv):

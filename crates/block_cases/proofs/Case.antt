@@ -6,7 +6,7 @@ use Prim.Native.Nat.{ℕ}
 use Rattle.common.specs.Row.{Answer}
 use Rattle.common.specs.Expected.{same, same_words, same_lists}
 use Rattle.block_memory.specs.Format.{format}
-use Rattle.block_cases.specs.Case.{left, left_answers, right, right_answers, afterwards, afterwards_answers, blocks, answers_hold, blocks_hold, words_back_lem}
+use Rattle.block_cases.specs.Case.{left, left_answers, right, right_answers, afterwards, afterwards_answers, blocks, answers_hold, blocks_hold, words_back}
 use Rattle.block_cases.proofs.Later.{run_later, answers_later, told_later, reached-is, answered-is, all-told-is}
 use Rattle.block_cases.proofs.Computing.{computing}
 
@@ -31,6 +31,6 @@ words-computed : same_words (run_later (format 4096) (left ++ right)) (format 40
 unfolding computing left right same_words
 words-computed = refl
 
-pub words_back_lem : words_back_lem ≡ true
-unfolding words_back_lem
+pub words_back_lem : words_back ≡ true
+unfolding words_back
 words_back_lem = ap (λ (x : List ℕ). same_words x (format 4096)) (reached-is (left ++ right)) ∙ words-computed

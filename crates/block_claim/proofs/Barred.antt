@@ -15,7 +15,7 @@ use Rattle.block_rules.specs.Call.{Call, format_all, serve}
 use Rattle.block_rules.specs.Refusals.{refusals, refusal}
 use Rattle.block_rules.specs.Effects.{effect}
 use Rattle.block_rules.specs.Calls.{tells, result, told_of, told, answer, after, run, answers, all_told}
-use Rattle.block_claim.specs.Claim.{refused_by, all_refused, refused_beside, none_told_lem, Barred}
+use Rattle.block_claim.specs.Claim.{refused_by, all_refused, refused_beside, none_told, Barred}
 
 module _ (m : List ℕ) (bad : permitted (length m) ≡ false) where
   damaged : not (sound_test m) ≡ true
@@ -47,8 +47,8 @@ module _ (m : List ℕ) (bad : permitted (length m) ≡ false) where
   beside none = refl
   beside (some x) = refl
 
-  none_told_lem : (cs : List Call) → all_told m cs ≡ none_told_lem m cs
-  unfolding all_told none_told_lem told
+  none_told_lem : (cs : List Call) → all_told m cs ≡ none_told m cs
+  unfolding all_told none_told told
   none_told_lem [] = refl
   none_told_lem (format_all ∷ cs) = ap (λ (x : List ℕ). [] ∷ all_told x cs) (same format_all) ∙ ap (λ (rest : List (List ℕ)). [] ∷ rest) (none_told_lem cs)
   none_told_lem (serve s ∷ cs) =

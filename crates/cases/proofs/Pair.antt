@@ -76,8 +76,8 @@ module _ (b : ℕ) (m n : List ℕ) where
       sym (at m) ∙ ap (λ (ws : List ℕ). get_or ws i 0) (same-words (page b m p) (page b n p) q) ∙ at n
 
   -- so has each kernel page of d, and each page mapped in d
-  unfoldable same_seen_lem : ℕ → Bool
-  same_seen_lem d =
+  unfoldable same_seen : ℕ → Bool
+  same_seen d =
       all (λ j. same_page (get_or (five_pages b m d) j 0)) (from 5 0)
       && all (λ j. same_page (page_of b (word b m (list b m d) (2 + 2 * j)))) (from (3 * threes b m d) 0)
       && all (λ v. eqb (mapping b m d v) 0 || same_page (page_of b (mapping b m d v))) (tabled b m d)
@@ -85,16 +85,16 @@ module _ (b : ℕ) (m n : List ℕ) where
   abbrev Same : ℕ → Type 0
   Same p = same_page p ≡ true
 
-  seen? : (d : ℕ) → Tells (same_seen_lem d) ((((j : ℕ) → j < 5 → Same (get_or (five_pages b m d) j 0))
+  seen? : (d : ℕ) → Tells (same_seen d) ((((j : ℕ) → j < 5 → Same (get_or (five_pages b m d) j 0))
       × ((j : ℕ) → j < 3 * threes b m d → Same (page_of b (word b m (list b m d) (2 + 2 * j)))))
       × ((v : ℕ) → Has b m d v → mapping b m d v ≢ 0 → Same (page_of b (mapping b m d v))))
-  unfolding same_seen_lem
+  unfolding same_seen
   seen? d =
       both (both (all? (from 5 0) (below 5) (λ j. so?)) (all? (from (3 * threes b m d) 0) (below (3 * threes b m d)) (λ j. so?)))
       (all? (tabled b m d) (tabled-is b m d) (λ v. unless eq? so?))
 
   -- these are the pages that d is shown
-  same_seen_lem : 6 ≤ b → Sound b m → {k d : ℕ} → InTree b m k d → same_seen_lem d ≡ true → EqualOn b (Shown b m d) m n
+  same_seen_lem : 6 ≤ b → Sound b m → {k d : ℕ} → InTree b m k d → same_seen d ≡ true → EqualOn b (Shown b m d) m n
   same_seen_lem wide s {k} {d} t q p x i l = same-page p i l (go (shown-split wide d m s t x))
     where
       go : ((w : Way) × KernelWay w × UsedBy b m d w p) ⊎ Maps b m d p → Same p
@@ -133,10 +133,10 @@ held₂ = held second_calls refl
 -- ---- all that is computed
 
 unfoldable test : List ℕ → List ℕ → Bool
-test m n = stands 5 3 0 m && stands 9 1 1 n && eqb (pages 6 m) (pages 6 n) && same_seen_lem 6 m n 17
+test m n = stands 5 3 0 m && stands 9 1 1 n && eqb (pages 6 m) (pages 6 n) && same_seen 6 m n 17
 
 computed : test (reached_later 0 32 first_calls) (reached_later 0 32 second_calls) ≡ true
-unfolding computing test stands child_test same_page same_seen_lem same_words first_calls second_calls calls from all image row tabled flat
+unfolding computing test stands child_test same_page same_seen same_words first_calls second_calls calls from all image row tabled flat
 computed = refl
 
 told : test first second ≡ true

@@ -109,7 +109,7 @@ module _ (b : ℕ) (m : List ℕ) where
       lending = record { down = λ v c a. down t a; back = count-back b m local big counts t };
       kernel = record { shut = λ v c a. (child-cell t a).shut; others = count-others b m local t (judged t).shut };
       absent = λ v i. ((judged t).cells v i).absent;
-      never_both_lem = never_both_lem t;
+      never_both = never_both_lem t;
     }
 
     pub quick_good : 61 ≤ page_words b → Good b m

@@ -122,10 +122,10 @@ module _ {b : ℕ} (wide : 6 ≤ b) (N : ℕ) (fl : ℕ → Option ℕ) (f : Lis
         go (some c) z = ap (lent_word b A (A.role p)) z ∙ lent-some wide N fl f A wf o D pre (A.role p) (B.role p) c (below_stays wide N fl f A wf o D pre p d c (B.chain p) t.s' (w_b.good p) (rw x.is x.clear) sd t.now z) ∙ ap (lent_word b B (B.role p)) (sym z)
 
     -- the accessible bit where the page is mapped
-    abbrev is_open_lem : Bool
-    is_open_lem = S p || is_hand (A.role p)
+    abbrev is_open : Bool
+    is_open = S p || is_hand (A.role p)
 
-    pt-now : (d v : ℕ) → Stays A D d → A.maps d v ≡ some p → (t : See d v) → Mix S pt d v ≡ pte b p is_open_lem t.s.rt
+    pt-now : (d v : ℕ) → Stays A D d → A.maps d v ≡ some p → (t : See d v) → Mix S pt d v ≡ pte b p is_open t.s.rt
     unfolding choose seen_word
     pt-now d v sd e t = mixed pt d v e ∙ go (S p)
       where
@@ -179,7 +179,7 @@ module _ {b : ℕ} (wide : 6 ≤ b) (N : ℕ) (fl : ℕ → Option ℕ) (f : Lis
             on (no n) = no (λ z. n (some_inj (sym e ∙ z)))
 
     -- where the bit was set already
-    open_cells : is_open_lem ≡ true → (k : Kind) (d v : ℕ) → B.role d ≡ desc → C1 k d v ≡ Mix S' k d v
+    open_cells : is_open ≡ true → (k : Kind) (d v : ℕ) → B.role d ≡ desc → C1 k d v ≡ Mix S' k d v
     open_cells h k d v l = go (mapsd d v) k
       where
         sd : Stays A D d
@@ -210,7 +210,7 @@ module _ {b : ℕ} (wide : 6 ≤ b) (N : ℕ) (fl : ℕ → Option ℕ) (f : Lis
         go (yes e) s1 = flag-kind wide true p (x.hop ∷ x.rest) C1 s1 d v (λ y. pt-s1 (sym y)) ∙ shadows s1 d v sd e (λ y. pt-s1 (sym y))
         go (yes e) s2 = flag-kind wide true p (x.hop ∷ x.rest) C1 s2 d v (λ y. pt-s2 (sym y)) ∙ shadows s2 d v sd e (λ y. pt-s2 (sym y))
 
-    walk-fits : Fits b is_open_lem C1 p (x.hop ∷ x.rest)
+    walk-fits : Fits b is_open C1 p (x.hop ∷ x.rest)
     unfolding choose
     walk-fits = go (S p) refl
       where
@@ -232,11 +232,11 @@ module _ {b : ℕ} (wide : 6 ≤ b) (N : ℕ) (fl : ℕ → Option ℕ) (f : Lis
     place = subst (λ (z : ℕ). (y : Three) × (three_at (idx b u) (A.threes z) ≡ some y)) x.part g.0.three
 
     -- what o's page table says of the page
-    word-now : (m : List ℕ) (C : Cells) → EncodesC b N f m B C → C pt o u ≡ Mix S pt o u → entry_at b m pt o u ≡ pte b p is_open_lem x.hop.rt
+    word-now : (m : List ℕ) (C : Cells) → EncodesC b N f m B C → C pt o u ≡ Mix S pt o u → entry_at b m pt o u ≡ pte b p is_open x.hop.rt
     word-now m C en c =
         let t : See o u = see o u so at-A in
         let r : t.s.rt ≡ x.hop.rt = sym t.rt ∙ ap (λ (z : Seen). z.rt) (some_inj (sym t.now ∙ sees-now)) in
-        (entry-three wide N fl B w_b f m C en pt o u place.0 o-live place.1).2 ∙ c ∙ pt-now o u so at-A t ∙ ap (pte b p is_open_lem) r
+        (entry-three wide N fl B w_b f m C en pt o u place.0 o-live place.1).2 ∙ c ∙ pt-now o u so at-A t ∙ ap (pte b p is_open) r
 
     -- the page is wiped or not: other pages in hand keep their words
     wipe-tables : (t : Bool) (m : List ℕ) → EncodesC b N f m B C1 → EncodesC b N f (cond t (wipe b m p) m) B C1
@@ -272,11 +272,11 @@ module _ {b : ℕ} (wide : 6 ≤ b) (N : ℕ) (fl : ℕ → Option ℕ) (f : Lis
       hands = λ q j r k. set-hand wide N fl f B w_b m (Mix S) mid.tables s1 o u place.0 o-live place.1 0 q j r k ∙ mid.hands q j r k;
     }
 
-    entry-now : (m : List ℕ) → EncodesC b N f m B C1 → entry_at b m pt o u ≡ pte b p is_open_lem x.hop.rt
+    entry-now : (m : List ℕ) → EncodesC b N f m B C1 → entry_at b m pt o u ≡ pte b p is_open x.hop.rt
     entry-now m en = word-now m C1 en (upd_c-other (Mix S) s1 o u 0 pt o u (λ y. pt-s1 y.0))
 
     page-now : (m : List ℕ) → EncodesC b N f m B C1 → page_of b (entry_at b m pt o u) ≡ p
-    page-now m en = ap (page_of b) (entry-now m en) ∙ page_of-pte wide p is_open_lem x.hop.rt g.0.small
+    page-now m en = ap (page_of b) (entry-now m en) ∙ page_of-pte wide p is_open x.hop.rt g.0.small
 
     -- a kernel page
     pub returned : (m₀ m : List ℕ) → is_hand (A.role p) ≡ false → Midway m₀ C1 S m
@@ -285,8 +285,8 @@ module _ {b : ℕ} (wide : 6 ≤ b) (N : ℕ) (fl : ℕ → Option ℕ) (f : Lis
     returned m₀ m h mid =
         rw (give_is b m o u, page-now m mid.tables) (subst (λ (z : ℕ). Midway m₀ (Mix S') S' (walk b true 9 (wipe b m p) z u)) x.part (record {
           tables = ext_live wide N fl f _ B w_b _ (Mix S') walk-cells
-              (walked wide N fl f B w_b p is_open_lem true 9 x.hop x.rest (wipe b m p) C1 short g walk-fits now);
-          hands = λ q j r k. walk-hand wide N fl f B w_b p is_open_lem true 9 x.hop x.rest (wipe b m p) C1 short g walk-fits now q j r k
+              (walked wide N fl f B w_b p is_open true 9 x.hop x.rest (wipe b m p) C1 short g walk-fits now);
+          hands = λ q j r k. walk-hand wide N fl f B w_b p is_open true 9 x.hop x.rest (wipe b m p) C1 short g walk-fits now q j r k
               ∙ come_back true m₀ m mid (λ w. sym (ap (λ (t : Bool). choose (not t || Writes p) 0 w) h)) q j r k;
         }))
       where
@@ -297,7 +297,7 @@ module _ {b : ℕ} (wide : 6 ≤ b) (N : ℕ) (fl : ℕ → Option ℕ) (f : Lis
         short = omega (arith, w_b.depth x.hop.part g.0.live, hop-depth wide B p x.hop x.rest g.0)
 
     -- a page that was no kernel page
-    writes_same : holds write_right (pte b p is_open_lem x.hop.rt) ≡ Writes p
+    writes_same : holds write_right (pte b p is_open x.hop.rt) ≡ Writes p
     unfolding seen_word rights_of
     writes_same =
         let t : See o u = see o u so at-A in
@@ -305,7 +305,7 @@ module _ {b : ℕ} (wide : 6 ≤ b) (N : ℕ) (fl : ℕ → Option ℕ) (f : Lis
         let e : cell b A pt o (head_v (cut D (A.chain p))) ≡ pte b p (is_hand (A.role p)) x.hop.rt =
         ap (λ (hs : List Hop). cell b A pt o (head_v hs)) x.is ∙ cell-some wide A pt o u p t.s at-A t.was ∙ ap (pte b p (is_hand (A.role p))) r in
         let rights : (β : Bool) → rights_of (pte b p β x.hop.rt) ≡ x.hop.rt = λ β. rights_of-pte wide p β x.hop.rt g.0.small in
-        ap (λ (z : ℕ). eqb (bit_and write_right z) write_right) (rights is_open_lem ∙ sym (ap rights_of e ∙ rights (is_hand (A.role p))))
+        ap (λ (z : ℕ). eqb (bit_and write_right z) write_right) (rights is_open ∙ sym (ap rights_of e ∙ rights (is_hand (A.role p))))
 
     settled : (s h t : Bool) → (s || h) ≡ true → (w : ℕ) → choose t 0 (choose (s && (not h || t)) 0 w) ≡ choose (not h || t) 0 w
     unfolding choose
@@ -318,9 +318,9 @@ module _ {b : ℕ} (wide : 6 ≤ b) (N : ℕ) (fl : ℕ → Option ℕ) (f : Lis
     settled false true false e w = refl
     settled false false false e w = absurd (false≢true e)
 
-    pub opened : (m₀ m : List ℕ) → is_open_lem ≡ true → Midway m₀ C1 S m → Midway m₀ (Mix S') S' (return_page b false m o (addr b u))
+    pub opened : (m₀ m : List ℕ) → is_open ≡ true → Midway m₀ C1 S m → Midway m₀ (Mix S') S' (return_page b false m o (addr b u))
     opened m₀ m h mid =
-        let t = holds write_right (pte b p is_open_lem x.hop.rt) in
+        let t = holds write_right (pte b p is_open x.hop.rt) in
         rw (keep-is b m o u, page-now m mid.tables, entry-now m mid.tables) (record {
           tables = ext_live wide N fl f _ B w_b C1 (Mix S') (open_cells h) (wipe-tables t m mid.tables);
           hands = come_back t m₀ m mid (λ w. rw (← writes_same) (settled (S p) (is_hand (A.role p)) t h w));
@@ -334,8 +334,8 @@ module _ {b : ℕ} (wide : 6 ≤ b) (N : ℕ) (fl : ℕ → Option ℕ) (f : Lis
         m₁ : List ℕ
         m₁ = put_at b m s1 o u 0
 
-        bit_is : acc_of (entry_at b m pt o u) ≡ bit is_open_lem
-        bit_is = ap acc_of (word-now m (Mix S) mid.tables refl) ∙ acc_of-pte wide p is_open_lem x.hop.rt g.0.small
+        bit_is : acc_of (entry_at b m pt o u) ≡ bit is_open
+        bit_is = ap acc_of (word-now m (Mix S) mid.tables refl) ∙ acc_of-pte wide p is_open x.hop.rt g.0.small
 
         is_open_lem : (β : Bool) → bit β ≢ 0 → β ≡ true
         is_open_lem true n = refl
@@ -349,7 +349,7 @@ module _ {b : ℕ} (wide : 6 ≤ b) (N : ℕ) (fl : ℕ → Option ℕ) (f : Lis
         go : (β : Bool) → eqb (acc_of (entry_at b m pt o u)) 0 ≡ β
             → Midway m₀ (Mix S') S' (return_page b (eqb (acc_of (entry_at b m pt o u)) 0) m₁ o (addr b u))
         go true e = rw e (returned m₀ m₁ (not-hand-then (S p) (is_hand (A.role p)) (sym bit_is ∙ eqb-true _ _ e)) (cleared m₀ m mid))
-        go false e = rw e (opened m₀ m₁ (is_open_lem is_open_lem (λ z. eqb-false _ _ e (bit_is ∙ z))) (cleared m₀ m mid))
+        go false e = rw e (opened m₀ m₁ (is_open_lem is_open (λ z. eqb-false _ _ e (bit_is ∙ z))) (cleared m₀ m mid))
 
     -- a kernel page, whose shadow 1 word is 0
     pub return-page : (m₀ m : List ℕ) → is_hand (A.role p) ≡ false → Mix S s1 o u ≡ 0 → Midway m₀ (Mix S) S m

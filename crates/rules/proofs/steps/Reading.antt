@@ -170,12 +170,12 @@ module _ (b : ℕ) (m n : List ℕ) (s : SameRead b m n) where
       last_row CHAIN _ _ (ap (λ (v : ℕ). not (eqb v 0)) (link-same v₂ (good v₂ g₂) y₂ ∙ ap (link b n) e₂)))))
 
   -- load and store, by the right that they need
-  abbrev word_row_lem : (r : ℕ) → List ℕ → ℕ → List Check
-  word_row_lem r x v =
+  abbrev word_row : (r : ℕ) → List ℕ → ℕ → List Check
+  word_row r x v =
       DAMAGED when damaged b x ∷ ADDRESS when bad_address b 4 v ∷ UNMAPPED when unmapped b x (current b x) v ∷ KERNEL when inaccessible b x v
       ∷ RIGHTS when lacks b r x v ∷ []
 
-  word_row_lem : (r v : ℕ) → first (word_row_lem r m v) ≡ first (word_row_lem r n v)
+  word_row_lem : (r v : ℕ) → first (word_row r m v) ≡ first (word_row r n v)
   word_row_lem r v =
       sound-row _ _ (row ADDRESS _ _ _ _ refl (λ g.
       let l = below_end b 4 v g in

@@ -12,7 +12,7 @@ use Rattle.memory.specs.Words as Mem
 use Rattle.memory.specs.Partition
 use Rattle.rules.specs.Call.{create_partition}
 use Rattle.rules.specs.Conditions.{bad_page, not_in_hand}
-use Rattle.rules.specs.Moves.{take_page, take_all_lem, pairs}
+use Rattle.rules.specs.Moves.{take_page, take_all, pairs}
 use Rattle.rules.specs.Refusals.{refusals, refusal}
 use Rattle.rules.specs.Effects.{create, effect}
 use Rattle.rules.proofs.model.Base.{upd, upd_other}
@@ -61,7 +61,7 @@ module _ {b : ℕ} (wide : 6 ≤ b) (N : ℕ) (fl : ℕ → Option ℕ) (f : Lis
 
   -- pages taken one after the other
   take_all_lem : (P : ℕ → ℕ) (us : List ℕ) (r : ℕ → Role) (m : List ℕ) → WF b N fl (re_role A r) → Encodes b N f m (re_role A r) → r o ≡ desc → Only A r
-      → Each (In P r) us → Distinct us → Taken (take_all_lem b m o us)
+      → Each (In P r) us → Distinct us → Taken (take_all b m o us)
   take_all_lem P [] r m wr en lo k g n = record { roles = r; words = en; only = k }
   take_all_lem P (a ∷ us) r m wr en lo k g n =
       let t = take-one wide N fl f (re_role A r) wr m o (page_of b a) (P a) en lo g.0.fits g.0.held in
