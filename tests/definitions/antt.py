@@ -82,11 +82,12 @@ def flat(f, xs):
 
 # what the definitions take from the toolchain's libraries
 LIBRARY = {
-    'length': len, 'getD': lambda xs, i, d: xs[i] if i < len(xs) else d, 'set': set_at, 'take': lambda n, xs: xs[:n],
+    'length': len, 'get_or': lambda xs, i, d: xs[i] if i < len(xs) else d, 'set': set_at, 'take': lambda n, xs: xs[:n],
     'drop': lambda n, xs: xs[n:], 'replicate': lambda n, x: [x] * n, 'eqb': lambda x, y: x == y, 'leb': lambda x, y: x <= y,
-    'ltb': lambda x, y: x < y, 'not': lambda x: not x, 'bitAnd': lambda x, y: x & y, 'suc': lambda n: n + 1, 'some': lambda x: ('some', x),
+    'ltb': lambda x, y: x < y, 'not': lambda x: not x, 'bit_and': lambda x, y: x & y, 'suc': lambda n: n + 1, 'some': lambda x: ('some', x),
 }
 LIBRARY['length'] = lambda xs: len(xs)
+TOOLCHAIN = {'std'}  # its modules are named as those of crates/
 CONSTANTS = {'true': 'True', 'false': 'False', '[]': '[]', 'zero': '0', 'none': "('none',)"}
 # long recursions over a list or up to a number, done at once; check_shortcuts holds them to the text
 SHORTCUTS = {('common', 'Words', 'overwrite'): overwrite, ('memory', 'Words', 'tabulate'): tabulate, ('walk', 'Finite', 'from'): lambda n, i: range(i, i + n),
@@ -121,11 +122,11 @@ class Module:
         for depth, text, raw in chunks:
             while sections and depth <= sections[-1][0]:
                 sections.pop()
-            m = re.match(r'(?:unfoldable )?(?:pub )?use Rattle·(\w+?)(?:·specs\.specs|\.specs)\.(\w+)(?:\.\{(.*)\}| as (\w+))?$', text)
-            if m:
+            m = re.match(r'(?:unfoldable )?(?:pub )?use Rattle\.(\w+)\.specs\.(\w+)(?:\.\{(.*)\}| as (\w+))?$', text)
+            if m and m.group(1) not in TOOLCHAIN:
                 if m.group(3):
                     for n in m.group(3).split(', '):
-                        self.imports[n.strip('_')] = (m.group(1), m.group(2))
+                        self.imports[n.strip('◌')] = (m.group(1), m.group(2))
                 else:
                     self.aliases[m.group(4) or m.group(2)] = (m.group(1), m.group(2))
                 continue
@@ -140,7 +141,7 @@ class Module:
             if re.match(r'(pub )?data ', text):
                 for l in raw[1:]:
                     if ':' in l:
-                        self.constructors.update(n.strip('_') for n in l.split(':')[0].split())
+                        self.constructors.update(n.strip('◌') for n in l.split(':')[0].split())
                 continue
             m = re.match(r'(?:unfoldable |abbrev )?(?:pub )?(\S+)(?: \{ℓ\})? : ', text)
             if m and not re.match(r'\S+.* = ', text.split(' : ')[0]):
@@ -156,7 +157,7 @@ class Program:
     def __init__(self):
         self.modules, self.functions = {}, {}
         self.shortcuts = dict(SHORTCUTS)
-        self.shortcuts['rules', 'Effects', 'releaseAll'] = lambda b, n, i, m, d, c: release_all(self, b, n, i, m, d, c)
+        self.shortcuts['rules', 'Effects', 'release_all'] = lambda b, n, i, m, d, c: release_all(self, b, n, i, m, d, c)
 
     def module(self, crate, name):
         if (crate, name) not in self.modules:
@@ -352,12 +353,6 @@ class Translation:
         f = self.atom(bound, True)
         args = []
         while self.peek() is not None and self.peek() not in INFIX and self.peek() not in (')', 'in', '=', '|', ']', ','):
-            field = re.match(r'\.(\w+)$', self.peek())
-            if field and not args:
-                # r .x: a field of a record
-                self.next()
-                name, f = None, '%s[%r]' % (f, field.group(1))
-                continue
             args.append(self.atom(bound))
         if name is not None and name not in bound and (name == 'some' or self.is_constructor(name)):
             return '(%s)' % ', '.join([repr(name)] + args + ['']).rstrip()
@@ -371,6 +366,10 @@ class Translation:
 
     def atom(self, bound, head=False):
         t = self.next()
+        if '.' in t and t.split('.')[0] in bound:
+            # r.x: a field of a record
+            r, *fields = t.split('.')
+            return bound[r] + ''.join('[%r]' % field for field in fields)
         if t == '(':
             e = self.expression(0, bound)
             if self.peek() == ',':
@@ -423,9 +422,9 @@ class Translation:
 
 
 def release_all(program, b, n, i, m, d, c):
-    """releaseAll, by the text for each virtual page, but that those without a shadow 1 table are passed over: their words there count as 0, which is not c."""
-    step = program.get('rules', 'Effects', 'releaseAll', text_only=True)
-    shadow1, table_at = program.get('memory', 'Partition', 'shadow1'), program.get('memory', 'Partition', 'tableAt')
+    """release_all, by the text for each virtual page, but that those without a shadow 1 table are passed over: their words there count as 0, which is not c."""
+    step = program.get('rules', 'Effects', 'release_all', text_only=True)
+    shadow1, table_at = program.get('memory', 'Partition', 'shadow1'), program.get('memory', 'Partition', 'table_at')
     end = i + n
     while i < end:
         if c and table_at(b, m, shadow1(b, m, d), i) == 0:
@@ -461,7 +460,7 @@ def check_shortcuts(program):
     for n in range(6):
         assert text(n, 3) == list(range(3, 3 + n))
     # memories of 12 pages with 4 words each, most words addresses of pages or of tables, or 0
-    text, changed, r = program.get('rules', 'Effects', 'releaseAll', text_only=True), 0, random.Random(5)
+    text, changed, r = program.get('rules', 'Effects', 'release_all', text_only=True), 0, random.Random(5)
     for _ in range(3000):
         m = [r.choice([0, 0, 16 * r.randrange(12), 16 * r.randrange(12) + r.choice([1, 3, 31])]) for _ in range(48)]
         i, d, c = r.randrange(16), r.randrange(12), 16 * r.randrange(5)

@@ -13,7 +13,7 @@ from running import TARGET, differ, fingerprint, run
 # KiB, files and calls of each; 15 and 65 are not permitted
 QUICK = [(16, 3, 5000), (17, 1, 300), (64, 1, 150), (15, 1, 300)]
 FULL = [(16, 12, 10000), (17, 4, 5000), (23, 4, 5000), (64, 4, 3000), (15, 1, 300), (65, 1, 300)]
-SERVICES = ['create', 'delete', 'prepare', 'collect', 'add', 'remove', 'cut', 'merge', 'enable', 'readEnabled', 'find', 'enter', 'leave']
+SERVICES = ['create', 'delete', 'prepare', 'collect', 'add', 'remove', 'cut', 'merge', 'enable', 'read_enabled', 'find', 'enter', 'leave']
 
 
 def second(*args, stdin=''):
@@ -26,7 +26,7 @@ def second(*args, stdin=''):
 class Definitions:
     def __init__(self):
         program = Program()
-        test = program.get('block_soundness', 'Test', 'soundTest')
+        test = program.get('block_soundness', 'Test', 'sound_test')
         last = [None, None]
 
         def remembered(m):
@@ -34,13 +34,13 @@ class Definitions:
             if last[0] is not m:
                 last[:] = m, test(m)
             return last[1]
-        program.functions['block_soundness', 'Test', 'soundTest'] = self.sound = remembered
+        program.functions['block_soundness', 'Test', 'sound_test'] = self.sound = remembered
         self.answer, self.told, self.after = (program.get('block_rules', 'Calls', name) for name in ('answer', 'told', 'after'))
         self.hashed = [None, None]
 
     def call(self, memory, numbers):
         """What the second program's `run` prints for a call, and the memory after it."""
-        c = ('serve', (SERVICES[numbers[0] - 1],) + tuple(numbers[1:])) if numbers[0] else ('formatAll',)
+        c = ('serve', (SERVICES[numbers[0] - 1],) + tuple(numbers[1:])) if numbers[0] else ('format_all',)
         answer, told, memory = ap(self.answer, memory, c), ap(self.told, memory, c), ap(self.after, memory, c)
         if self.hashed[0] is not memory:
             self.hashed = [memory, fingerprint(memory)]

@@ -14,7 +14,7 @@ from running import TARGET, differ, fingerprint, run
 
 HERE = os.path.dirname(os.path.abspath(__file__))
 WORDS = [64, 1024]  # of a page, by edition
-NAMES = ['formatAll', 'createPartition', 'deletePartition', 'addVAddr', 'removeVAddr', 'pageCount', 'prepare', 'collect', 'mappedInChild',
+NAMES = ['format_all', 'create_partition', 'delete_partition', 'add_vaddr', 'remove_vaddr', 'page_count', 'prepare', 'collect', 'mapped_in_child',
          'enter', 'leave', 'load', 'store', 'notify', 'dispatch', 'resume']
 MORNING = [20, 15, 12, 1, 256, 512, 768, 1024, 1280, 5, 256, 4096, 12, 1536, 1792, 12, 1792, 2048, 6, 256, 4096, 1536, 3, 2304, 256, 4096, 3,
            8, 2304, 12, 256, 1, 9, 256, 12, 4100, 77, 10, 11, 2308, 4, 256, 4096, 7, 256, 4096, 2, 256]
@@ -62,8 +62,8 @@ class Definitions:
     def __init__(self):
         self.program = Program()
         check_shortcuts(self.program)
-        self.sound = remembered(self.program.get('soundness', 'Test', 'soundTest'), 40)
-        self.program.functions['soundness', 'Test', 'soundTest'] = self.sound
+        self.sound = remembered(self.program.get('soundness', 'Test', 'sound_test'), 40)
+        self.program.functions['soundness', 'Test', 'sound_test'] = self.sound
         self.program.functions['memory', 'Counts', 'tabled'] = by_partition(self.program.get('memory', 'Counts', 'tabled'))
         self.width = self.program.get('memory', 'Edition', 'width')
         self.answer = self.program.get('rules', 'Editions', 'answer')
@@ -114,9 +114,9 @@ def compare_sizes(definitions):
     number = 0
     for edition in 0, 1:
         get = lambda name: definitions.program.get('memory', 'Geometry', name)
-        b = ap(get('widthOf'), edition)
-        counts = range(get('leastPages'), ap(get('mostPages'), b) + 1)
-        ours = ['%d %d %d' % (n, ap(get('threesFor'), b, n), ap(get('flatPages'), b, n)) for n in counts]
+        b = ap(get('width_of'), edition)
+        counts = range(get('least_pages'), ap(get('most_pages'), b) + 1)
+        ours = ['%d %d %d' % (n, ap(get('threes_for'), b, n), ap(get('flat_pages'), b, n)) for n in counts]
         theirs = second('sizes', edition).decode().split('\n')[:-1]
         if ours != theirs:
             differ('sizes of edition %d' % edition, [a for a, t in zip(ours, theirs) if a != t][:3], [t for a, t in zip(ours, theirs) if a != t][:3])
