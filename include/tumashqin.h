@@ -1,7 +1,7 @@
 /* Tumashqin: a memory-partition kernel over lent memory of 32-bit words.
  *
- * The functions are those of the crate `exports`, which are proved against the kernel's rules; `rt staticlib exports` writes the archive,
- * target/staticlib/libexports.a, for x86-64. It calls memcpy and memset of the C library and nothing else.
+ * The functions are those of the crate `exports`, which are proved against the kernel's rules; `rt lib` in crates/exports writes the archive,
+ * crates/exports/out/libexports.a, for x86-64. It calls memcpy and memset of the C library and nothing else.
  *
  * Slices. A slice is two arguments: a pointer to its first element, and its number of elements (words for uint32_t, bytes for uint8_t). The
  * pointer is aligned for its type. Where the number is 0 the pointer is not looked at, and NULL will do; else it is not NULL.

@@ -1,7 +1,7 @@
 /* Tumashqin's block kernel, for small controllers: memory parted into blocks, which are runs of bytes, over lent memory of 32-bit words.
  *
- * The functions are those of the crate `block_exports`, which are proved against the kernel's rules, docs/BLOCKS.md; `rt staticlib block_exports` writes the
- * archive, target/staticlib/libblock_exports.a, for x86-64. It calls memcpy and memset of the C library and nothing else. What tumashqin.h says of slices and
+ * The functions are those of the crate `block_exports`, which are proved against the kernel's rules, docs/BLOCKS.md; `rt lib` in crates/block_exports
+ * writes the archive, crates/block_exports/out/libblock_exports.a, for x86-64. It calls memcpy and memset of the C library and nothing else. What tumashqin.h says of slices and
  * threads holds here too; the archive of that header is not needed, unless its functions are called.
  *
  * Stack. No call takes 4 KiB. The most measured is 2,984 bytes, by delete; it is the same on every tree, since no function calls itself. This is measured on

@@ -21,9 +21,9 @@ def call(word):
 
 
 def assemble(text):
-    """('written', bytes), ('unread', line, reason) or ('tooLong',)."""
+    """('written', bytes), ('unread', line, reason) or ('too_long',)."""
     if len(text) > 65536:
-        return ('tooLong',)
+        return ('too_long',)
     lines = text.split(b'\n')
     if lines[-1] == b'':
         lines.pop()
@@ -57,6 +57,6 @@ def message(result):
     """What is written to standard error."""
     if result[0] == 'written':
         return b''
-    if result[0] == 'tooLong':
+    if result[0] == 'too_long':
         return b'the text is longer than 65536 bytes\n'
     return b'line %d: %s\n' % (result[1], REASONS[result[2] - 1].encode())

@@ -1,6 +1,6 @@
 """Compares the definitions of crates/text and crates/assembly, and the program assemble where it is built, with assembler.py on random good and bad texts.
 
-  python3 tests/examples/texts.py [COUNT]        # rt check assemble builds the program
+  python3 tests/examples/texts.py [COUNT]        # rt run in crates/assemble builds the program
 
 Prints how many texts agree, by what they come to; exits with 1 at the first difference."""
 import collections, os, random, subprocess, sys
@@ -8,7 +8,7 @@ import collections, os, random, subprocess, sys
 from assembler import CALLS, REASONS, assemble, message
 
 HERE = os.path.dirname(os.path.abspath(__file__))
-PROGRAM = os.path.join(HERE, '..', '..', 'target', 'bin', 'assemble')
+PROGRAM = os.path.join(HERE, '..', '..', 'crates', 'assemble', 'out', 'assemble')
 sys.path.insert(0, os.path.join(HERE, '..', 'definitions'))
 sys.setrecursionlimit(100000)
 from antt import Program

@@ -2,7 +2,7 @@
 archive has by name; the refusals of the header, the Rust enum and the definitions by number and name; and the parts, in order, of what a call hands out
 beside its answer (a context; a block), and the constants that stand beside it, in the header and in Rust.
 
-  python3 tests/interface/compare.py        # after rt staticlib exports and rt staticlib block_exports
+  python3 tests/interface/compare.py        # after rt lib in crates/exports and in crates/block_exports
 
 A slice of an exported function is two arguments of a declaration: a pointer, to const where the slice is only read, and its number of elements, `length`
 for the first slice and NAME_length for one after it. Prints what differs and exits with 1. Each of a kernel's changes, made to a copy, has to make a
@@ -16,7 +16,7 @@ C_NUMBERS = {'u8': 'uint8_t', 'u32': 'uint32_t', 'u64': 'uint64_t', 'usize': 'si
 # prefix: of the names in C. beside: what a call hands out beside its answer, by its names in C and Rust. files: by what they hold; changes: to one of them.
 Kernel = namedtuple('Kernel', 'prefix beside archive files changes')
 
-PAGES = Kernel('tumashqin_', ('tumashqin_context', 'Context'), 'target/staticlib/libexports.a', {
+PAGES = Kernel('tumashqin_', ('tumashqin_context', 'Context'), 'crates/exports/out/libexports.a', {
     'header': 'include/tumashqin.h',
     'rust': 'bindings/rust/src/raw.rs',
     'exports': 'crates/exports/src/**/*.rt',
@@ -49,7 +49,7 @@ PAGES = Kernel('tumashqin_', ('tumashqin_context', 'Context'), 'target/staticlib
     ('numbers', 'number HAND = 7', 'number HAND = 8'),
 ])
 
-BLOCKS = Kernel('tumashqin_block_', ('tumashqin_block', 'Block'), 'target/staticlib/libblock_exports.a', {
+BLOCKS = Kernel('tumashqin_block_', ('tumashqin_block', 'Block'), 'crates/block_exports/out/libblock_exports.a', {
     'header': 'include/tumashqin_block.h',
     'rust': 'bindings/rust/src/block/raw.rs',
     'exports': 'crates/block_exports/src/**/*.rt',

@@ -164,7 +164,7 @@ impl fmt::Display for Tally {
         let sequences: Vec<_> = self.sequences.iter().map(|(pages, count)| format!("{pages}: {count}")).collect();
         writeln!(f, "sequences by the number of large pages: {}", sequences.join(", "))?;
         if !scripts::built() {
-            writeln!(f, "no scripts: target/bin/replay is not built (rt check replay)")?;
+            writeln!(f, "no scripts: crates/replay/out/replay is not built (rt run in crates/replay)")?;
         }
         writeln!(f, "{} scripts replayed, {} of them bad", self.good_scripts + self.bad_scripts, self.bad_scripts)?;
         self.parts.iter().zip(EDITIONS).try_for_each(|(part, edition)| {
