@@ -38,7 +38,7 @@ PAGES = Kernel('tumashqin_', ('tumashqin_context', 'Context'), 'crates/exports/o
     ('rust', 'first: u32) -> u64', 'first: u32) -> u32'),
     ('rust', '        r7: u32,\n', ''),
     ('rust', 'out: *mut u32', 'out: *const u32'),
-    ('exports', '#[no_mangle]\npub extern "C" fn tumashqin_enter', 'pub fn tumashqin_enter'),
+    ('exports', '#[unsafe(no_mangle)]\npub extern "C" fn tumashqin_enter', 'pub fn tumashqin_enter'),
     ('exports', 'out: &mut [u8]', 'out: &[u8]'),
     ('exports', 'out: &mut [u32]', 'out: &[u32]'),
     ('exports', 'words: &mut [u32], child: u32)', 'words: &mut [u32], child: u32, target: u32)'),
@@ -68,7 +68,7 @@ BLOCKS = Kernel('tumashqin_block_', ('tumashqin_block', 'Block'), 'crates/block_
     ('rust', 'fn tumashqin_block_leave(', 'fn tumashqin_block_left('),
     ('rust', 'on: u32) -> u64', 'on: u32) -> u32'),
     ('rust', 'words: *const u32', 'words: *mut u32'),
-    ('exports', '#[no_mangle]\npub extern "C" fn tumashqin_block_enter', 'pub fn tumashqin_block_enter'),
+    ('exports', '#[unsafe(no_mangle)]\npub extern "C" fn tumashqin_block_enter', 'pub fn tumashqin_block_enter'),
     ('exports', 'out: &mut [u32]', 'out: &[u32]'),
     ('exports', 'first: u32, second: u32', 'second: u32, first: u32'),
     ('refusals', '    Piece,\n', ''),
@@ -124,7 +124,7 @@ def of_rust(text):
 
 def of_exports(text):
     functions = {}
-    for name, arguments, result in re.findall(r'#\[no_mangle\]\s*pub extern "C" fn (\w+)\(([^()]*)\) -> (\w+)', bare(text)):
+    for name, arguments, result in re.findall(r'#\[unsafe\(no_mangle\)\]\s*pub extern "C" fn (\w+)\(([^()]*)\) -> (\w+)', bare(text)):
         flat, slices = [], 0
         for a, reference, kind in (matched(r'(\w+): (&mut |&)?(.*)', a) for a in parts(arguments, ',')):
             if reference:
@@ -134,8 +134,8 @@ def of_exports(text):
             else:
                 flat.append((a, c_type(kind)))
         functions[name] = c_type(result), flat
-    if len(functions) != text.count('#[no_mangle]'):
-        raise ValueError('%d functions understood of %d that are marked' % (len(functions), text.count('#[no_mangle]')))
+    if len(functions) != text.count('#[unsafe(no_mangle)]'):
+        raise ValueError('%d functions understood of %d that are marked' % (len(functions), text.count('#[unsafe(no_mangle)]')))
     return functions
 
 

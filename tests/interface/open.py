@@ -17,7 +17,7 @@ def sources(root, crate):
 
 def heads(text):
     """The functions that a file marks pub: each by its name, with all that stands before its body."""
-    return dict(re.findall(r'^pub (?:extern "C" )?fn (\w+)(.*?)^\{', text, re.M | re.S))
+    return dict(re.findall(r'^pub (?:extern "C" )?fn (\w+)((?:[^\n]*\{$)|.*?^(?:\{|\)[^\n]*\{)$)', text, re.M | re.S))
 
 
 def types(text):
@@ -28,7 +28,8 @@ def offered(files):
     """What another crate can name, with the file that has it: of the root, of public modules, and what is used on from private ones or from other crates."""
     lib = files['lib']
     names = [('lib', name) for name in list(heads(lib)) + sorted(types(lib))]
-    names += re.findall(r'^pub use (\w+)::(\w+);', lib, re.M)
+    for module, used in re.findall(r'^pub use (\w+)::(\w+|\{[^}]*\});', lib, re.M):
+        names += [(module, name) for name in re.findall(r'\w+', used)]
     for module in re.findall(r'^pub mod (\w+);', lib, re.M):
         names += [(module, name) for name in list(heads(files[module])) + sorted(types(files[module]))]
     return sorted(set(names))
