@@ -1,4 +1,6 @@
 // What a call answers: done, with a word, or the refusal.
+#![tactic(auto)]
+
 pub mod outcomes;
 pub mod packing;
 
@@ -10,7 +12,7 @@ pub use common::Outcome;
 pub use outcomes::outcome_of;
 pub use packing::pack;
 
-#[derive(Drop)]
+#[derive(Clone, Copy)]
 pub enum Answer {
     Done(u32),
     Damaged,

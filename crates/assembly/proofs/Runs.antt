@@ -10,7 +10,7 @@ use borrow.Author.Tests.{eq-eqb, ne_eqb}
 use Rattle.memory.specs.Words.{overwrite}
 use Rattle.script.specs.Lines.{Put}
 use Rattle.script.proofs.Puts.{put_then}
-use Rattle.text.specs.Text.{before, lines, split, words}
+use Rattle.text.specs.Text.{lines, split, words}
 use Rattle.text.specs.Lines.{pages_of, record_of, calls_in, reason}
 use Rattle.assembly.specs.Assembled.{Result, written, unread, header, calls, begin}
 use Rattle.text.specs.Steps.{part, LineAt, LineRead}

@@ -82,7 +82,7 @@ pub fn put_record(out: &mut [u8], at: usize, w: &[u8], s: &[u8]) -> usize
 }
 
 // What reading a line gives: why it can't be read, or 0; how many calls it has; and the byte behind its record.
-#[derive(Drop)]
+#[derive(Clone, Copy)]
 pub struct LineRead {
     pub why: u32,
     pub calls: u32,

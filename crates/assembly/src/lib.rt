@@ -1,4 +1,6 @@
 // Scripts by hand: from a text to a replay script, or to the first line that can't be read and why.
+#![tactic(auto)]
+
 mod assembling;
 mod buffers;
 mod calls;
@@ -9,7 +11,7 @@ pub use buffers::{message_buffer, script_buffer, text_buffer};
 pub use messages::put_message;
 
 // A script of so many bytes, or a line by its number and why it can't be read, or a text that is too long.
-#[derive(Drop)]
+#[derive(Clone, Copy)]
 pub enum Assembled {
     Script(usize),
     Unread(u32, u32),

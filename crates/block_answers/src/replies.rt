@@ -9,7 +9,7 @@ use crate::Answer;
 pub const TOLD_WORDS: usize = 6;
 
 // The answer of read enabled and of find, and the six words beside it: those of the block, or zeros.
-#[derive(Drop)]
+#[derive(Clone, Copy)]
 pub struct Told {
     pub answer: Answer,
     pub words: [u32; TOLD_WORDS],

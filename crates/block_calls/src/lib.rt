@@ -1,4 +1,6 @@
 // The fourteen calls of the block kernel on any lent memory, and the same by their numbers.
+#![tactic(auto)]
+
 pub mod calls;
 pub mod numbers;
 

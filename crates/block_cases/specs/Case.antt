@@ -1,5 +1,5 @@
 -- "A case, whole": its answers, the blocks that are told and the words that it leaves, from the rules alone. Assumes nothing.
-use Rattle.std.specs.Prelude.{List, [], ◌∷◌, ◌++◌, Bool, ◌&&◌, ℕ, replicate}
+use Rattle.std.specs.Prelude.{List, [], ◌∷◌, ◌++◌, Bool, ℕ, replicate}
 use Rattle.common.specs.Row.{Answer, ok, no}
 use Rattle.common.specs.Expected.{same, same_words, same_lists}
 use Rattle.block_memory.specs.Format.{format}

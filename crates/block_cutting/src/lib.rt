@@ -1,4 +1,6 @@
 // cut and merge: a block of the caller becomes two pieces, and two pieces become one.
+#![tactic(auto)]
+
 pub mod cutting;
 pub mod merging;
 

@@ -1,5 +1,7 @@
 // format: it "wipes all words and writes the header, the root's table word, its descriptor and first structure, and the starting block as block 8 with all
 // rights, in hand, words 4 to 8 0. Entry 1 of the root is 8 ..; Root is current."
+#![tactic(auto)]
+
 ghost use Rattle.std.specs.Prelude.{◌≡◌, true, length};
 ghost use Rattle.block_memory.specs.Geometry;
 ghost use Rattle.block_memory.specs.Format;

@@ -1,7 +1,7 @@
 -- Sentences 8 and 9 of a slot, in the words that were read of it and of its source; and a slot whole. Assumes nothing.
 use mathlib.Core.Path.{◌≡◌, refl, sym, ap, ◌∙◌}
 use mathlib.Core.List.{List}
-use mathlib.Core.Bool.{Bool, true, false, cond, ◌&&◌}
+use mathlib.Core.Bool.{true, false, cond, ◌&&◌}
 use Prim.Native.Nat.{ℕ, ◌*◌}
 use lib.Bits.{bit_and}
 use lib.Dec.{eqb}

@@ -164,7 +164,7 @@ fn in_parent(own: u32, rights: u32, used: u32, child: u32, number: u32) -> bool
 }
 
 // What a block comes from, read once: whether 8 holds of it, and where its source starts and ends and the number of its first piece.
-#[derive(Drop)]
+#[derive(Clone, Copy)]
 struct Source {
     fits: bool,
     start: usize,

@@ -6,14 +6,14 @@ use block_answers::{Answer, TOLD_WORDS};
 use block_calls::{telling, tells_block, untold};
 
 // What a call by its number answers, or that no call has the number.
-#[derive(Drop)]
+#[derive(Clone, Copy)]
 pub enum Called {
     Answered(Answer),
     Unknown,
 }
 
 // The answer, and the six words of the block that is told, or zeros: they stand in a struct, since no enum holds an array.
-#[derive(Drop)]
+#[derive(Clone, Copy)]
 pub struct Numbered {
     pub called: Called,
     pub words: [u32; TOLD_WORDS],

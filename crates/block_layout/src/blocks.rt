@@ -5,7 +5,7 @@ use crate::partitions::structure;
 use crate::slots::slot_in;
 use common::read;
 
-#[derive(Drop)]
+#[derive(Clone, Copy)]
 pub struct Block {
     pub start: u32,
     pub end: u32,

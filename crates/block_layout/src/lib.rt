@@ -1,5 +1,7 @@
 // The layout of the block kernel's memory in code: header, table, descriptors, structures and slots. A partition is named by the index d of its descriptor,
 // a block of its pool by its number n. What isn't there is read as 0, and writing there does nothing, so no index and no number needs a bound.
+#![tactic(auto)]
+
 pub mod blocks;
 pub mod partitions;
 pub mod searches;

@@ -1,4 +1,6 @@
 // add and remove: a block of the caller goes to a child, and comes back.
+#![tactic(auto)]
+
 pub mod adding;
 pub mod removing;
 

@@ -23,7 +23,7 @@ use Rattle.block_soundness.proofs.Ranges.{has-range}
 use Rattle.block_soundness.proofs.Blocks.{field-has}
 use Rattle.block_soundness.proofs.Listing.{found, finds}
 use Rattle.block_rules.specs.Effects.{of_child, goes_with, wipe_structures, wipe_partition, give_back, delete_child}
-use Rattle.block_making.specs.Deleting.{marked, passing, inside, stands_in, gone}
+use Rattle.block_making.specs.Deleting.{marked, passing, stands_in, gone}
 use Rattle.block_making.proofs.Listing.{behind, list-skip}
 use Rattle.block_making.proofs.Marking.{agree, over-image, image-image, keep-keep, keep_same, over-keep}
 use Rattle.block_making.proofs.Places.{inside?}

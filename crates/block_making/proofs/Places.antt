@@ -1,7 +1,7 @@
 -- The partitions that stand in a block, each marked in the place of its table word: a block's own places hold them all. Assumes nothing.
 use mathlib.Core.Path.{◌≡◌, refl, sym, ap, ap₂, ◌∙◌}
 use mathlib.Core.Logic.{◌≢◌}
-use mathlib.Core.List.{List, [], ◌∷◌}
+use mathlib.Core.List.{List, ◌∷◌}
 use mathlib.Core.Bool.{Bool, true, false, cond, ◌||◌}
 use Prim.Native.Nat.{ℕ, zero, suc, ◌+◌, ◌*◌, ◌/◌, ◌≤◌, ◌<◌}
 use native.Mathlib.Nat.{not-suc-le-zero, le_of_suc-le-suc}
@@ -11,7 +11,7 @@ use native.Mathlib.Decide.{ℕ_discrete, dec_lt}
 use lib.ListN.{length, length-set, get_or, set, take, drop, drop_of_length-le, replicate}
 use lib.Seq.{get_or-set_same, get_or-set_other, drop-cons, ext_get_or}
 use Rattle.walk.specs.Reflect.{Tells, both, eq?, le?, lt?, isn't}
-use Rattle.walk.specs.Finite.{from, image, image-at, length-image}
+use Rattle.walk.specs.Finite.{from, image-at, length-image}
 use Rattle.block_memory.specs.Words.{word}
 use Rattle.block_memory.specs.Partition.{start, end}
 use Rattle.block_memory.specs.Sound.{Table}

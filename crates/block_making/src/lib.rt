@@ -1,4 +1,6 @@
 // create and delete: a partition is made in a block of the caller, and goes with all that is below it.
+#![tactic(auto)]
+
 pub mod creating;
 pub mod deleting;
 pub mod wiping;

@@ -1,4 +1,6 @@
 // What several calls do and ask: blocks disabled, taken, given back and freed, and the conditions of refusals.
+#![tactic(auto)]
+
 pub mod changes;
 pub mod conditions;
 

@@ -1,5 +1,5 @@
 -- The two counts, each by its own rule. Assumes nothing.
-use Rattle.std.specs.Prelude.{List, cond, not, ◌&&◌, ℕ, ◌+◌, ◌-◌, ◌*◌, eqb}
+use Rattle.std.specs.Prelude.{List, cond, not, ◌&&◌, ℕ, ◌+◌, ◌-◌, eqb}
 use Rattle.walk.specs.Lists.{sum_of}
 use Rattle.walk.specs.Finite.{keep}
 use Rattle.block_memory.specs.Words.{word}

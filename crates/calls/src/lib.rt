@@ -1,4 +1,6 @@
 // The sixteen open calls on any lent memory, and document 01's by their numbers.
+#![tactic(auto)]
+
 mod calls;
 mod numbers;
 

@@ -1,5 +1,5 @@
 -- Document 02, L8, worked through once on 20 pages: a child at page 9, whose slot page is page 17; the root's slot page is page 19. Assumes nothing.
-use Rattle.std.specs.Prelude.{List, [], ◌∷◌, ◌++◌, Bool, true, false, ◌&&◌, ℕ, ◌+◌, eqb, take, replicate}
+use Rattle.std.specs.Prelude.{List, [], ◌∷◌, ◌++◌, Bool, ◌&&◌, ℕ, ◌+◌, take, replicate}
 use Rattle.std.proofs.Math.Option.{some}
 use Rattle.common.specs.Expected.{Row, ◌is◌, same, same_lists}
 use Rattle.memory.specs.Geometry.{width_of}

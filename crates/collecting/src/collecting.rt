@@ -8,7 +8,7 @@ ghost use Rattle.rules.specs.Moves.{return_all};
 ghost use Rattle.rules.specs.Conditions.{child, any_mapping};
 ghost use Rattle.rules.specs.Refusals.{refusal};
 ghost use Rattle.rules.specs.Effects.{effect};
-ghost use Rattle.rules.specs.Calls.{result, answer, after};
+ghost use Rattle.rules.specs.Calls.{result as result_of, answer, after};
 ghost use Rattle.pages.specs.Width.{Width};
 ghost use Rattle.answers.specs.Said.{said};
 ghost use Rattle.threes.specs.Standing.{Standing};
@@ -19,7 +19,7 @@ use threes::lists::{drop_listed, three_place};
 
 // Whether a word of the part s is not 0.
 fn any_word(s: &[u32]) -> bool
-    ensures* { λ r. ⌜ r ≡ any (λ w. not (eqb w 0)) s.now ⌝ }
+    ensures { result ≡ any (λ w. not (eqb w 0)) s.now }
 {
     let mut i = 0;
     while i < s.len() {
@@ -34,7 +34,7 @@ fn any_word(s: &[u32]) -> bool
 // 12: "page table has a mapping", of the child k and the target t.
 fn any_mapping(b: u32, m: &[u32], k: PhysicalPage, t: u32) -> bool
     requires { Width b }
-    ensures* { λ r. ⌜ r ≡ any_mapping b m.now k.0 t ⌝ }
+    ensures { result ≡ any_mapping b m.now k.0 t }
 {
     any_word(pages::words_of(b, m, pages::page_of(b, pages::table_for(b, m, k, t))))
 }
@@ -43,7 +43,7 @@ fn any_mapping(b: u32, m: &[u32], k: PhysicalPage, t: u32) -> bool
 fn collect_refusal(b: u32, m: &[u32], good: bool, c: u32, t: u32) -> u32
     requires width { Width b }
     requires judged { good ≡ sound_test b m.now }
-    ensures* { λ r. ⌜ (r ≡ refusal b m.now (Call.collect c t)) × (r ≤ 16) ⌝ }
+    ensures { (result ≡ refusal b m.now (Call.collect c t)) × (result ≤ 16) }
 {
     let n = moves::child_refusal(b, m, good, &[c, t], c);
     if n != 0 {
@@ -71,7 +71,7 @@ fn return_chained(
     second: PhysicalPage,
 )
     requires { Width b }
-    ensures* { λ r. ⌜ m.new ≡ put b (put b (return_all b m.old d.0 (v ∷ x ∷ y ∷ [])) first.0 0 x) second.0 0 y ⌝ }
+    ensures { m.new ≡ put b (put b (return_all b m.old d.0 (v ∷ x ∷ y ∷ [])) first.0 0 x) second.0 0 y }
 {
     moves::return_all(b, m, d, &[v, x, y]);
     pages::write_word(b, m, first, 0, x);
@@ -82,7 +82,7 @@ fn return_chained(
 fn collect_effect(b: u32, m: &mut [u32], c: u32, t: u32) -> u32
     requires width { Width b }
     requires stands { Standing b m.old (child b m.old c) t }
-    ensures* { λ r. ⌜ (r ≡ result b m.old (Call.collect c t)) × (m.new ≡ effect b m.old (Call.collect c t)) ⌝ }
+    ensures { (result ≡ result_of b m.old (Call.collect c t)) × (m.new ≡ effect b m.old (Call.collect c t)) }
 {
     let d = pages::current(b, m);
     let k = moves::child_of(b, m, c);
@@ -102,7 +102,7 @@ fn collect_effect(b: u32, m: &mut [u32], c: u32, t: u32) -> u32
 pub fn collect(b: u32, m: &mut [u32], good: bool, c: u32, t: u32) -> Answer
     requires width { Width b }
     requires judged { good ≡ sound_test b m.old }
-    ensures* { λ r. ⌜ (said r ≡ answer b m.old (Call.collect c t)) × (m.new ≡ after b m.old (Call.collect c t)) ⌝ }
+    ensures { (said result ≡ answer b m.old (Call.collect c t)) × (m.new ≡ after b m.old (Call.collect c t)) }
 {
     let n = collect_refusal(b, m, good, c, t);
     if n != 0 {

@@ -3,7 +3,7 @@ ghost use Rattle.std.specs.Prelude.{◌≡◌};
 ghost use Rattle.common.specs.Packed.{outcome, packed};
 
 // Ok with a word, or no with a refusal's number.
-#[derive(Drop)]
+#[derive(Clone, Copy)]
 pub struct Outcome(pub bool, pub u32);
 
 // The word of a call that is done, or the refusal's number above 32 zeros.

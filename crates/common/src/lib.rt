@@ -1,4 +1,6 @@
 // Words of a lent memory and parts of it, and answers, for any kernel.
+#![tactic(auto)]
+
 pub mod answers;
 pub mod parts;
 pub mod replies;

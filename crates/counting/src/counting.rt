@@ -3,7 +3,7 @@ ghost use Rattle.std.specs.Prelude.{◌≡◌, ◌≤◌};
 ghost use Rattle.soundness.specs.Test.{sound_test};
 ghost use Rattle.rules.specs.Call.{page_count};
 ghost use Rattle.rules.specs.Refusals.{refusal};
-ghost use Rattle.rules.specs.Calls.{result, answer, after};
+ghost use Rattle.rules.specs.Calls.{result as result_of, answer, after};
 ghost use Rattle.pages.specs.Width.{Width};
 ghost use Rattle.answers.specs.Said.{said};
 
@@ -13,7 +13,7 @@ use answers::Answer;
 fn count_refusal(b: u32, m: &[u32], good: bool, c: u32, t: u32) -> u32
     requires width { Width b }
     requires judged { good ≡ sound_test b m.now }
-    ensures* { λ r. ⌜ (r ≡ refusal b m.now (page_count c t)) × (r ≤ 16) ⌝ }
+    ensures { (result ≡ refusal b m.now (page_count c t)) × (result ≤ 16) }
 {
     let n = moves::child_refusal(b, m, good, &[c, t], c);
     if n != 0 {
@@ -28,7 +28,7 @@ fn count_refusal(b: u32, m: &[u32], good: bool, c: u32, t: u32) -> u32
 // How many pages the child at c lacks for a mapping at t.
 fn pages_lacking(b: u32, m: &[u32], c: u32, t: u32) -> u32
     requires { Width b }
-    ensures* { λ r. ⌜ r ≡ result b m.now (page_count c t) ⌝ }
+    ensures { result ≡ result_of b m.now (page_count c t) }
 {
     if moves::no_three(b, m, moves::child_of(b, m, c), t) {
         return 3;
@@ -40,7 +40,7 @@ fn pages_lacking(b: u32, m: &[u32], c: u32, t: u32) -> u32
 pub fn page_count(b: u32, m: &[u32], good: bool, c: u32, t: u32) -> Answer
     requires width { Width b }
     requires judged { good ≡ sound_test b m.now }
-    ensures* { λ r. ⌜ (said r ≡ answer b m.now (page_count c t)) × (m.now ≡ after b m.now (page_count c t)) ⌝ }
+    ensures { (said result ≡ answer b m.now (page_count c t)) × (m.now ≡ after b m.now (page_count c t)) }
 {
     let n = count_refusal(b, m, good, c, t);
     if n != 0 {

@@ -1,4 +1,6 @@
 // delete_partition: its refusals, over memory that is only read, and its effect.
+#![tactic(auto)]
+
 pub mod deleting;
 pub mod releases;
 

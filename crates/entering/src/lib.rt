@@ -1,4 +1,6 @@
 // Enter and leave: which partition is current.
+#![tactic(auto)]
+
 pub mod partitions;
 
 pub use partitions::{enter, leave};

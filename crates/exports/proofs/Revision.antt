@@ -8,7 +8,7 @@ use lib.Dec.{eqb}
 use lib.ListN.{length, take, drop, length-take, length-drop}
 use borrow.Author.Tests.{eqb-true}
 use Rattle.rules.specs.Record.{reader_refusal, revision_of}
-use Rattle.record.proofs.Reading.{passed-long}
+use Rattle.record.proofs.Readings.{passed-long}
 
 take-length : (n : ℕ) (xs : List ℕ) → take n xs ≡ take (length (take n xs)) xs
 take-length zero xs = refl

@@ -1,4 +1,6 @@
 // "the words have the forms above": the tests of a partition's own pages and of its children, each as the crate soundness has it.
+#![tactic(auto)]
+
 pub mod children;
 pub mod indices;
 pub mod partitions;

@@ -1,4 +1,6 @@
 // "Header and length as above", and the root's own pages "as format leaves them".
+#![tactic(auto)]
+
 pub mod formatted;
 pub mod header;
 pub mod root;

@@ -20,7 +20,7 @@ use pages::{
 use tally::{block_of, lent_test, next_word, table_of};
 
 // A partition as a lender: its directory and its shadow 1.
-#[derive(Drop)]
+#[derive(Clone, Copy)]
 pub struct Lender {
     pub directory: PhysicalPage,
     pub shadow1: PhysicalPage,
@@ -38,7 +38,7 @@ pub fn lender_of(b: u32, m: &[u32], d: PhysicalPage) -> Lender
 
 // The partition whose cells are asked, looked up once: its descriptor's page, itself and its parent as lenders, its address in its parent, and where the
 // memory ends.
-#[derive(Drop)]
+#[derive(Clone, Copy)]
 pub struct Asked {
     pub descriptor: PhysicalPage,
     pub own: Lender,
@@ -165,7 +165,7 @@ pub fn cell(b: u32, m: &[u32], a: Asked, v: VirtualPage, w: u32, x: u32, y: u32,
 }
 
 // The three words at place j, which lie below n in all three tables but where a table is cut short.
-#[derive(Drop)]
+#[derive(Clone, Copy)]
 struct Words {
     w: u32,
     x: u32,
@@ -212,7 +212,7 @@ fn risen(top: u32, y: u32) -> u32
 }
 
 // Whether cells passed; and where they did, the last shadow 2 word among them, as long as they rise.
-#[derive(Drop)]
+#[derive(Clone, Copy)]
 pub struct Cells {
     pub passed: bool,
     pub top: u32,

@@ -28,7 +28,7 @@ pub fn tables_test(b: u32, m: &[u32], d: PhysicalPage, shut: u32, due: u64) -> b
 
 // Whether a partition passed its test and each of its pages could be marked; and where they did, the pages that it maps and the kernel pages of its
 // children.
-#[derive(Drop)]
+#[derive(Clone, Copy)]
 pub struct Alone {
     pub passed: bool,
     pub mapped: u32,

@@ -1,4 +1,6 @@
 // The kernel: the open calls, a call by its number, the run of a sequence, and the verdict of a memory.
+#![tactic(auto)]
+
 mod numbers;
 mod replies;
 mod sequences;

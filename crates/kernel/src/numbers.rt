@@ -6,7 +6,7 @@ use answers::Answer;
 use calls::numbered_call;
 
 // What a call by its number answers, or that no call has the number.
-#[derive(Drop)]
+#[derive(Clone, Copy)]
 pub enum Called {
     Answered(Answer),
     Unknown,

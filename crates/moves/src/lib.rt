@@ -1,4 +1,6 @@
 // What several calls do and ask: pages taken and returned, the walk up the ancestors, the conditions of refusals and how rows of them begin.
+#![tactic(auto)]
+
 pub mod ancestors;
 pub mod conditions;
 pub mod pages_moved;

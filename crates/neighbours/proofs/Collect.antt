@@ -24,7 +24,7 @@ use Rattle.rules.proofs.model.Read.{root_page}
 use Rattle.rules.proofs.model.Inv.{Inv, pages-is}
 use Rattle.rules.proofs.sound.Words.{virtual-fits, threes-is}
 use Rattle.rules.proofs.steps.Checks.{none_of}
-use Rattle.rules.proofs.steps.ChainChecks.{chained, CollectChecks, collect-checks}
+use Rattle.rules.proofs.steps.ChainChecks.{CollectChecks, collect-checks}
 use Rattle.rules.proofs.steps.CollectPlace.{found}
 use Rattle.rules.proofs.steps.CollectEffect.{page-size, page-word}
 use Rattle.neighbours.proofs.Twin.{Twin, inv₁, live₁, forms₁, shown-fits, list-shown}

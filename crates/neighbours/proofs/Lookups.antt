@@ -12,7 +12,7 @@ use lib.Seq.{ext_get_or}
 use Rattle.walk.specs.Finite.{any}
 use Rattle.memory.specs.Geometry
 use Rattle.memory.specs.Words as Mem
-use Rattle.memory.specs.Partition.{current, parent, directory, shadow1, list, threes, table_for, mapping, lent, above}
+use Rattle.memory.specs.Partition.{current, parent, shadow1, list, threes, table_for, mapping, lent, above}
 use Rattle.memory.specs.Tree.{Virtual, Has, Child, InTree, root, child}
 use Rattle.memory.specs.Sound.{Sound}
 use Rattle.memory.proofs.Geometry.{directory_index-lt}

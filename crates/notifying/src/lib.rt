@@ -1,4 +1,6 @@
 // notify and dispatch: the target becomes current, with the caller's context saved or not. Each is given the judge's verdict.
+#![tactic(auto)]
+
 pub mod dispatching;
 pub mod notifying;
 

@@ -1,4 +1,6 @@
 // Words that are addresses or 0, and the pages and pairs that a partition's descriptor and list name.
+#![tactic(auto)]
+
 pub mod addresses;
 pub mod own;
 pub mod pairs;

@@ -8,7 +8,7 @@ ghost use Rattle.pages.specs.Width.{Width};
 
 use pages::{PhysicalPage, directory, index, list, page_words, read, shadow1, shadow2, threes};
 
-#[derive(Drop)]
+#[derive(Clone, Copy)]
 pub struct Own {
     pub descriptor: PhysicalPage,
     pub directory: PhysicalPage,
@@ -71,7 +71,7 @@ fn word_of(b: u32, m: &[u32], p: PhysicalPage, i: u32, whole: bool) -> u32
 }
 
 // The words of the directory and the shadows at one index.
-#[derive(Drop)]
+#[derive(Clone, Copy)]
 pub struct Three(pub u32, pub u32, pub u32);
 
 pub fn words_at(b: u32, m: &[u32], o: Own, i: u32) -> Three

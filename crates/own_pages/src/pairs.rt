@@ -14,7 +14,7 @@ use crate::roots::list_word;
 use pages::{PhysicalPage, accessible, frame, read_word, table_word, virtual_page};
 
 // "pairs of virtual address in the parent and physical address"
-#[derive(Drop)]
+#[derive(Clone, Copy)]
 pub struct Pair(pub u32, pub u32);
 
 // Pair j of d's list.

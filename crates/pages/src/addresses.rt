@@ -9,10 +9,10 @@ ghost use Rattle.pages.specs.Width.{Width};
 use crate::widths::page_bytes;
 
 // "Virtual and physical page numbers must be kinds that can't be mixed up."
-#[derive(Drop)]
+#[derive(Clone, Copy)]
 pub struct PhysicalPage(pub u32);
 
-#[derive(Drop)]
+#[derive(Clone, Copy)]
 pub struct VirtualPage(pub u32);
 
 // The field of x above its lowest n bits.

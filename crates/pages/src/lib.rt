@@ -1,4 +1,6 @@
 // The layout of the memory in code: words, page numbers, addresses, tables and sizes, for every index width b.
+#![tactic(auto)]
+
 pub mod addresses;
 pub mod counts;
 pub mod entries;

@@ -1,4 +1,6 @@
 // prepare: a chain of three pages becomes a child's tables.
+#![tactic(auto)]
+
 pub mod chains;
 pub mod preparing;
 

@@ -1,4 +1,4 @@
 pub mod Append
 pub mod Sizes
-pub mod Reading
+pub mod Readings
 pub mod Writing

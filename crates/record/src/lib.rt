@@ -1,4 +1,6 @@
 // The start-up record: 76 bytes, little-endian: magic, begin, end and 64 revision bytes.
+#![tactic(auto)]
+
 pub mod bytes;
 pub mod reader;
 pub mod writer;

@@ -8,7 +8,7 @@ use crate::bytes::{MAGIC, word_in};
 use answers::{Answer, reply};
 
 // "it answers begin and end, both 0 when it refuses"
-#[derive(Drop)]
+#[derive(Clone, Copy)]
 pub struct Reading {
     pub answer: Answer,
     pub begin: u32,

@@ -1,7 +1,14 @@
 // Replay as a program: the script is standard input, or the file that the first argument names; the transcript is standard output.
-ghost use Rattle.std.specs.Prelude.{◌≡◌, length};
+#![tactic(auto)]
 
-use libc::{STDIN_FILENO, STDOUT_FILENO};
+ghost use Rattle.rules.specs.Replay;
+ghost use Rattle.std.specs.Io.KnownBytes.{Appends};
+ghost use Rattle.std.specs.Prelude.{◌≡◌, IfSome, OnOk, length, take};
+
+use anyhow::Context;
+use std::io::{Read, Write};
+use std::{env, fs, io};
+use stdio::read_full;
 
 // The longest script, and one byte more: input that is longer still is a bad script too.
 fn script_buffer() -> [u8; 4097]
@@ -10,34 +17,27 @@ fn script_buffer() -> [u8; 4097]
     [0; 4097]
 }
 
-// The file that the first argument names, or standard input where there is none. It is negative, and the reason is written, where the file cannot be opened.
-fn input() -> i32 {
-    if os::arg_count() < 2 {
-        return STDIN_FILENO;
-    }
-    let mut path = io::buffer();
-    let n = os::arg(1, &mut path);
-    if os::errno() != 0 {
-        os::fail(b"path");
-        return -1;
-    }
-    let fd = os::open_read(&path[..n]);
-    if fd < 0 {
-        os::fail(&path[..n]);
-    }
-    fd
-}
-
-fn main() {
-    let fd = input();
-    if fd < 0 {
-        return;
-    }
+// Reads the script and writes the transcript.
+fn replay<R: Read, W: Write>(input: &mut R, output: &mut W) -> io::Result<()>
+    ensures { OnOk result (IfSome (R.remaining input.old)
+        (λ bs. Appends (W.contents output.old) (W.contents output.new) (Replay.replay 6 (take 4097 bs)))) }
+{
     let mut bytes = script_buffer();
-    let n = io::read_full(fd, &mut bytes);
+    let n = read_full(input, &mut bytes)?;
     let mut out = transcripts::transcript_buffer();
     let r = transcripts::replay(&bytes[..n], &mut out);
-    if !io::write_all(STDOUT_FILENO, &out[..r]) {
-        os::fail(b"write");
+    output.write_all(&out[..r])
+}
+
+// The file that the first argument names, or standard input where there is none.
+fn main(rt: HostRuntime) -> anyhow::Result<()> {
+    let mut output = io::writer(&rt);
+    match env::args(&rt)?.nth(1) {
+        None => replay(&mut rt.reader(), &mut output)?,
+        Some(path) => {
+            let mut file = fs::open(&rt, &path).context(format_args!("{path}"))?;
+            replay(&mut file, &mut output)?
+        }
     }
+    Ok(())
 }

@@ -1,3 +1,3 @@
 pub mod SlotRow
-pub mod Resumed
+pub mod Resumption
 pub mod Beside

@@ -22,7 +22,7 @@ use contexts::targets::{target_word, toward_refusal};
 use pages::PhysicalPage;
 
 // The eleven words stand beside the answer; beside a refusal they are zeros.
-#[derive(Drop)]
+#[derive(Clone, Copy)]
 pub struct Resumed {
     pub answer: Answer,
     pub words: [u32; SAVED_WORDS],

@@ -48,11 +48,11 @@ module _ (b : ℕ) where
 
   pub length-take_all : (m : List ℕ) (d : ℕ) (vs : List ℕ) → length (take_all b m d vs) ≡ length m
   length-take_all m d [] = refl
-  length-take_all m d (v ∷ vs) = length-take_all _ d vs ∙ length-take_page m d v
+  length-take_all m d (v ∷ vs) = length-take_all (take_page b m d v) d vs ∙ length-take_page m d v
 
   pub length-return_all : (m : List ℕ) (d : ℕ) (vs : List ℕ) → length (return_all b m d vs) ≡ length m
   length-return_all m d [] = refl
-  length-return_all m d (v ∷ vs) = length-return_all _ d vs ∙ length-return_page true m d v
+  length-return_all m d (v ∷ vs) = length-return_all (return_page b true m d v) d vs ∙ length-return_page true m d v
 
   length-release : (m : List ℕ) (d v : ℕ) → length (release b m d v) ≡ length m
   length-release m d v = length-return_page _ _ d v ∙ length-put_table_word b m _ _ 0

@@ -1,4 +1,6 @@
 // A replay script and its transcript: what needs no kernel.
+#![tactic(auto)]
+
 pub mod arguments;
 pub mod digits;
 pub mod header;

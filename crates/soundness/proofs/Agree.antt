@@ -8,7 +8,7 @@ use native.Mathlib.Omega.{arith}
 use lib.Dec.{eqb, ltb}
 use Rattle.memory.specs.Geometry.{page_words}
 use Rattle.memory.specs.Words.{word}
-use Rattle.memory.specs.Partition.{directory, list, threes, table_for, mapping, lent, above}
+use Rattle.memory.specs.Partition.{list, threes, table_for, mapping, lent, above}
 use Rattle.memory.specs.Entry.{accessible, write_and_execute}
 use Rattle.walk.specs.Reflect.{Tells, via, eq?, le?, lt?, both, either, isn't, unless, given, choose}
 use Rattle.walk.specs.Finite.{from, below, from-once, One, all, all?, all_in?, any?, once?}

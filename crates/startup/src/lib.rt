@@ -1,4 +1,6 @@
 // The start-up record of a lent memory, written: the judge is asked first.
+#![tactic(auto)]
+
 ghost use Rattle.std.specs.Prelude.{◌≡◌};
 ghost use Rattle.memory.specs.Edition.{width};
 ghost use Rattle.answers.specs.Said.{said};

@@ -1,44 +1,91 @@
-// Standard input as little-endian words.
-ghost use Rattle.std.specs.Prelude.{◌≤◌, length};
+// Input as bytes and as little-endian words.
+ghost use Rattle.std.specs.Io.KnownBytes.{Consumes, IsAtEnd};
+ghost use Rattle.std.specs.Io.{ReadsAtMost};
+ghost use Rattle.std.specs.Prelude.{◌<◌, ◌≤◌, ◌≡◌, IfOk, IfSome, OnOk, ◌+◌, drop, length, slice_index, take};
+ghost use Rattle.stdio.specs.Words.{HoldsWords, LosesWord, LosesWords, first_count, first_word};
 
-use libc::STDIN_FILENO;
+use std::io;
+use std::io::Read;
 
-fn wide(x: u8) -> u32 {
-    x as u32
+// Reads until `bytes` is full or the input ends. Answers how many bytes it read; these stand at the start of `bytes`.
+pub fn read_full<R: Read>(input: &mut R, bytes: &mut [u8]) -> io::Result<usize>
+    ensures bound { ReadsAtMost result bytes.new }
+    ensures read { IfOk result (λ n. Consumes (R.remaining input.old) (R.remaining input.new) (take n bytes.new)) }
+    ensures front { IfOk result (λ n. IfSome (R.remaining input.old) (λ bs. take n bytes.new ≡ take (length bytes.new) bs)) }
+    ensures end { IfOk result (λ n. n < length bytes.new → IsAtEnd (R.remaining input.new)) }
+{
+    let mut done = 0;
+    while done < bytes.len() {
+        let n = input.read(&mut bytes[done..])?;
+        if n == 0 {
+            break;
+        }
+        done += n;
+    }
+    Ok(done)
+}
+
+// The byte at index i; 0 past the end.
+fn byte(bytes: &[u8], i: usize) -> u32
+    ensures value { result ≡ slice_index bytes.now i }
+    ensures bound { result < 256 }
+{
+    if i < bytes.len() {
+        return bytes[i] as u32;
+    }
+    0
+}
+
+// The word at the start; a byte past the end counts as 0.
+fn first_word(bytes: &[u8]) -> u32
+    ensures { result ≡ first_word bytes.now }
+{
+    byte(bytes, 0) + 256 * byte(bytes, 1) + 65536 * byte(bytes, 2) + 16777216 * byte(bytes, 3)
 }
 
 // The next word of the input; 0 past its end.
-pub fn next_word() -> u32 {
+pub fn next_word<R: Read>(input: &mut R) -> io::Result<u32>
+    ensures word { IfOk result (λ w. IfSome (R.remaining input.old) (λ bs. w ≡ first_word bs)) }
+    ensures rest { OnOk result (LosesWord (R.remaining input.old) (R.remaining input.new)) }
+{
     let mut four = [0u8; 4];
-    io::read_full(STDIN_FILENO, &mut four);
-    (wide(four[3]) << 24) | (wide(four[2]) << 16) | (wide(four[1]) << 8) | wide(four[0])
+    let n = read_full(input, &mut four)?;
+    Ok(first_word(&four[..n]))
 }
 
 // The next words of the input, as many as there is room for.
-fn next_words(words: &mut [u32]) {
-    let mut i = 0;
-    while i < words.len() {
-        words[i] = next_word();
-        i += 1;
+fn next_words<R: Read>(input: &mut R, words: &mut [u32]) -> io::Result<()>
+    ensures words { OnOk result (IfSome (R.remaining input.old) (HoldsWords (length words.old) words.new)) }
+    ensures rest { OnOk result (LosesWords (length words.old) (R.remaining input.old) (R.remaining input.new)) }
+{
+    for i in 0..words.len() {
+        words[i] = next_word(input)?;
     }
+    Ok(())
 }
 
 // The next word of the input as a count; 0 where it is above `most`.
-pub fn next_count(most: usize) -> usize
-    ensures { result ≤ most }
+pub fn next_count<R: Read>(input: &mut R, most: usize) -> io::Result<usize>
+    ensures bound { IfOk result (λ n. n ≤ most) }
+    ensures count { IfOk result (λ n. IfSome (R.remaining input.old) (λ bs. n ≡ first_count most bs)) }
+    ensures rest { OnOk result (LosesWord (R.remaining input.old) (R.remaining input.new)) }
 {
-    let n = next_word() as usize;
+    let n = next_word(input)? as usize;
     if most < n {
-        return 0;
+        return Ok(0);
     }
-    n
+    Ok(n)
 }
 
 // The next count of the input and so many words behind it, written from the start of `words` on. Answers the count; 0 where there is no room for it.
-pub fn next_part(words: &mut [u32]) -> usize
-    ensures { result ≤ length words.old }
+pub fn next_part<R: Read>(input: &mut R, words: &mut [u32]) -> io::Result<usize>
+    ensures bound { IfOk result (λ n. n ≤ length words.old) }
+    ensures count { IfOk result (λ n. IfSome (R.remaining input.old) (λ bs. n ≡ first_count (length words.old) bs)) }
+    ensures words { IfOk result (λ n. IfSome (R.remaining input.old) (λ bs. HoldsWords n words.new (drop 4 bs))) }
+    ensures others { IfOk result (λ n. drop n words.new ≡ drop n words.old) }
+    ensures rest { IfOk result (λ n. LosesWords (1 + n) (R.remaining input.old) (R.remaining input.new)) }
 {
-    let n = next_count(words.len());
-    next_words(&mut words[0..n]);
-    n
+    let n = next_count(input, words.len())?;
+    next_words(input, &mut words[0..n])?;
+    Ok(n)
 }

@@ -1,8 +1,10 @@
-// Standard input and output of the programs that run calls: little-endian words are read; answers, a memory's hash and its verdict are written in lines.
+// Input and output of the programs that run calls: little-endian words are read; answers, a memory's hash and its verdict are written in lines.
+#![tactic(auto)]
+
 mod answers;
 mod hash;
 mod input;
 
 pub use answers::{NONE, print_part, print_refusal, print_verdict};
 pub use hash::hash_bytes;
-pub use input::{next_count, next_part, next_word};
+pub use input::{next_count, next_part, next_word, read_full};

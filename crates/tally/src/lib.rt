@@ -1,4 +1,6 @@
 // The rows of a partition's tables swept once: its pages are marked, and what is asked of their number is counted.
+#![tactic(auto)]
+
 pub mod marks;
 pub mod rows;
 pub mod tally;

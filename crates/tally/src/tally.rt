@@ -23,7 +23,7 @@ use pages::{
 
 // Whether each page in hand could be marked; and where it could, the pages mapped, those neither lent nor accessible, and the kernel pages of the children.
 // The last is a sum in 64 bits, since a child's list may have any number of threes.
-#[derive(Drop)]
+#[derive(Clone, Copy)]
 pub struct Swept {
     pub marked: bool,
     pub mapped: u32,

@@ -5,7 +5,7 @@ ghost use Rattle.text.specs.Steps;
 ghost use Rattle.text.specs.Steps.{NextWord, LineAt, is_kind};
 
 // Where a part starts and where it ends.
-#[derive(Drop)]
+#[derive(Clone, Copy)]
 pub struct Part(pub usize, pub usize);
 
 // How many bytes stand before the first b.

@@ -9,7 +9,7 @@ ghost use Rattle.threes.specs.Standing.{Listed, Standing, put_three, dropped};
 
 use pages::PhysicalPage;
 
-#[derive(Drop)]
+#[derive(Clone, Copy)]
 pub struct Roots {
     pub directory: PhysicalPage,
     pub shadow1: PhysicalPage,

@@ -1,4 +1,6 @@
 // Replay: from the bytes of a script to the bytes of its transcript.
+#![tactic(auto)]
+
 mod buffers;
 mod replays;
 mod steps;

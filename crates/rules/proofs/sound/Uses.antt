@@ -207,6 +207,7 @@ module _ {b : ℕ} (wide : 6 ≤ b) (m : List ℕ) (i : Inv b m) where
       go (listed j) is_listed x =
           let (n, e) = to-state u.part l (listed j) p x in
           owned e (listed-owner wide m i u.part l j n)
+      go (in_hand _) k x = elim k [ ]
 
   pub sound-uses : Uses b m
   sound-uses =

@@ -220,8 +220,8 @@ module _ {b : ℕ} (wide : 6 ≤ b) (N : ℕ) (fl : ℕ → Option ℕ) (f : Lis
             (sym (upd_c-other (Mix S) s1 o u 0 pt d v (λ y. pt-s1 y.0) ∙ m pt d v w'), sym (upd_c-other (Mix S) s1 o u 0 s2 d v (λ y. s1-s2 (sym y.0)) ∙ m s2 d v w'))) g
 
         go : (β : Bool) → S p ≡ β → Fits b (S p || is_hand (A.role p)) C1 p (x.hop ∷ x.rest)
-        go true e = rw e (to true (cell b B) (λ k d v w. mixed k d v w ∙ ap (λ (β : Bool). choose β (cell b B k d v) (cell b A k d v)) e) (rw (role-now, x.is) at (fits wide N fl B w_b p)))
-        go false e = rw e (to (is_hand (A.role p)) (cell b A) (λ k d v w. mixed k d v w ∙ ap (λ (β : Bool). choose β (cell b B k d v) (cell b A k d v)) e) (rw x.is at (fits_cut wide _ (cell b A) p D (A.chain p) (fits wide N fl A wf p))))
+        go true e = subst (λ (β : Bool). Fits b (β || is_hand (A.role p)) C1 p (x.hop ∷ x.rest)) (sym e) (to true (cell b B) (λ k d v w. mixed k d v w ∙ ap (λ (β : Bool). choose β (cell b B k d v) (cell b A k d v)) e) (rw (role-now, x.is) at (fits wide N fl B w_b p)))
+        go false e = subst (λ (β : Bool). Fits b (β || is_hand (A.role p)) C1 p (x.hop ∷ x.rest)) (sym e) (to (is_hand (A.role p)) (cell b A) (λ k d v w. mixed k d v w ∙ ap (λ (β : Bool). choose β (cell b B k d v) (cell b A k d v)) e) (rw x.is at (fits_cut wide _ (cell b A) p D (A.chain p) (fits wide N fl A wf p))))
 
     -- ---- on the words
 

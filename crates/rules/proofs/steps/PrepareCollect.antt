@@ -19,7 +19,7 @@ use Rattle.rules.specs.Conditions
 use Rattle.rules.specs.Refusals.{refusals, refusal}
 use Rattle.rules.specs.Effects.{effect}
 use Rattle.rules.specs.Calls.{answer, after}
-use Rattle.rules.proofs.Rows.{First, none, on, first-is}
+use Rattle.rules.proofs.Rows.{none, on, first-is}
 use Rattle.rules.proofs.model.Words.{W, addr, word, link, link_nz, idx, page_of, page_of-link, join, idx-join}
 use Rattle.rules.proofs.model.Abs.{Kind, pt, s1, s2, Role, desc, tab, is_hand, head_v, role_word, Abs, WF, Encodes, cell, link_word}
 use Rattle.rules.proofs.model.Read

@@ -9,7 +9,7 @@ use borrow.Author.Tests.{ltb-false, eqb-true, not-false}
 use lib.Dec.{ltb, eqb}
 use Rattle.memory.specs.Geometry.{width_of, edition_of, page_words}
 use Rattle.memory.specs.Words.{tabulate}
-use Rattle.memory.specs.Partition.{current, parent, lent}
+use Rattle.memory.specs.Partition.{current, parent}
 use Rattle.memory.specs.Contexts.{most_slot, slot_words, saved_words, to_child_slot, no_slots, slot_word, valid, saved_in}
 use Rattle.rules.specs.Refusal.{DAMAGED, ADDRESS, CHILD, ROOT, EDITION, SLOT-PAGE, SLOT, EMPTY-SLOT}
 use Rattle.rules.specs.Row.{Check, ◌when◌, first, pass}

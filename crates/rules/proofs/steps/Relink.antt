@@ -10,7 +10,7 @@ use Rattle.rules.specs.Conditions
 use Rattle.rules.specs.Refusals.{refusal}
 use Rattle.rules.specs.Effects.{effect}
 use Rattle.rules.specs.Calls.{result, answer, after}
-use Rattle.rules.proofs.model.Words.{addr, word, link, idx, page_of}
+use Rattle.rules.proofs.model.Words.{addr, word, idx, page_of}
 use Rattle.rules.proofs.model.Abs.{Kind, pt, s1, s2, desc, Abs, head_v}
 use Rattle.rules.proofs.steps.Fill.{First}
 use Rattle.rules.proofs.model.Inv.{Inv, named, live, cur-is}

@@ -14,7 +14,7 @@ use borrow.Author.Tests.{eq-eqb, ne_eqb, eqb-true, not-false, not-true}
 use Rattle.walk.specs.Finite.{from, image}
 use Rattle.memory.specs.Geometry.{page_words, address, page_of}
 use Rattle.memory.specs.Words.{word, page, start}
-use Rattle.memory.specs.Partition.{directory, table_word, lent}
+use Rattle.memory.specs.Partition.{directory, table_word}
 use Rattle.memory.specs.Counts.{row, tabled}
 use Rattle.memory.proofs.Geometry.{page-address}
 use Rattle.tally.specs.Search.{seek}

@@ -1,0 +1,61 @@
+-- `block_answers::replies::reply` meets its contract: each arm is its number. Assumes nothing.
+use mathlib.Core.Path.{◌≡◌}
+use mathlib.Core.Logic.{◌≢◌}
+use Prim.Native.Nat.{ℕ, zero, suc, ◌≤◌, zero-le}
+use native.Mathlib.Omega.{arith}
+use Rattle.common.proofs.Rows.{reply-ok, reply-no}
+use Rattle.block_answers.proofs.replies.reply.Goals as goal
+
+-- the last arm: n is none of the numbers below k
+abbrev Past : ℕ → ℕ → Type 0
+Past n zero = Unit {0}
+Past n (suc k) = Past n k × (n ≢ k)
+
+past : (n k : ℕ) → Past n k → k ≤ n
+past n zero h = zero-le
+past n (suc k) (h, e) = omega (arith, past n k h)
+
+last : (n k : ℕ) → Past n k → n ≤ k → n ≡ k
+last n k h l = omega (arith, past n k h)
+
+pub returns-in-0 : goal.returns-in-0
+returns-in-0 c = reply-ok _ _ (omega arith)
+
+pub returns-in-1 : goal.returns-in-1
+returns-in-1 c = reply-no _ _ _ (omega arith) (omega arith)
+
+pub returns-in-2 : goal.returns-in-2
+returns-in-2 c = reply-no _ _ _ (omega arith) (omega arith)
+
+pub returns-in-3 : goal.returns-in-3
+returns-in-3 c = reply-no _ _ _ (omega arith) (omega arith)
+
+pub returns-in-4 : goal.returns-in-4
+returns-in-4 c = reply-no _ _ _ (omega arith) (omega arith)
+
+pub returns-in-5 : goal.returns-in-5
+returns-in-5 c = reply-no _ _ _ (omega arith) (omega arith)
+
+pub returns-in-6 : goal.returns-in-6
+returns-in-6 c = reply-no _ _ _ (omega arith) (omega arith)
+
+pub returns-in-7 : goal.returns-in-7
+returns-in-7 c = reply-no _ _ _ (omega arith) (omega arith)
+
+pub returns-in-8 : goal.returns-in-8
+returns-in-8 c = reply-no _ _ _ (omega arith) (omega arith)
+
+pub returns-in-9 : goal.returns-in-9
+returns-in-9 c = reply-no _ _ _ (omega arith) (omega arith)
+
+pub returns-in-10 : goal.returns-in-10
+returns-in-10 c = reply-no _ _ _ (omega arith) (omega arith)
+
+pub returns-in-11 : goal.returns-in-11
+returns-in-11 c = reply-no _ _ _ (omega arith) (omega arith)
+
+pub returns-in-12 : goal.returns-in-12
+returns-in-12 c = reply-no _ _ _ (omega arith) (omega arith)
+
+pub returns-in_default : goal.returns-in_default
+returns-in_default c = reply-no _ _ _ (omega arith) (omega arith)

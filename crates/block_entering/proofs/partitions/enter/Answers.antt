@@ -1,0 +1,36 @@
+-- `block_entering::partitions::enter` meets its contract: a refusal, or the current partition is the child. Assumes nothing.
+use mathlib.Core.Path.{refl, ap, ◌∙◌}
+use Prim.Native.Nat.{ℕ}
+use Rattle.block_memory.specs.Words.{put}
+use Rattle.block_rules.specs.Call
+use Rattle.block_rules.specs.Call.{serve}
+use Rattle.block_rules.specs.Refusals.{refusals, refusals_of}
+use Rattle.block_rules.specs.Effects.{effect_of}
+use Rattle.block_rules.specs.Calls.{result_of}
+use Rattle.block_moves.proofs.Whole.{refused, served}
+use Rattle.block_entering.proofs.partitions.enter.Goals as goal
+
+pub returns-then-n-ne0 : goal.returns-then-n-ne0
+unfolding refusals refusals_of
+returns-then-n-ne0 c =
+    let s = c.args in
+    let r = c.child_refusal-n in
+    refused s.m.now (serve (Call.enter s.c)) r.result r.ensures.0 0 c.reply.ensures c.if-n-ne0.true
+
+pub returns : goal.returns
+unfolding refusals refusals_of result_of effect_of
+returns c =
+    let s = c.args in
+    let m = s.m.now in
+    let r = c.child_refusal-n in
+    served
+    m
+    (Call.enter s.c)
+    r.result
+    r.ensures.0
+    0
+    c.current.ensures
+    c.reply-2.ensures
+    refl
+    (c.write.ensures ∙ ap (λ (x : ℕ). put m 3 x) c.place-t.ensures)
+    c.if-n-ne0.false

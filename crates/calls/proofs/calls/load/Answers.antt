@@ -1,0 +1,10 @@
+-- `calls::calls::load` meets its contract. The width is that of the memory, and the verdict that of the judge. Assumes nothing.
+use Rattle.rules.specs.Editions.{answer, after}
+use Rattle.calls.proofs.calls.load.Goals as goal
+
+pub load-requires : goal.load-requires
+load-requires c = record { width = c.width-b.ensures.1; judged = rw c.width-b.ensures.0 c.is_sound-good.ensures }
+
+pub returns : goal.returns
+unfolding answer after
+returns c = rw c.width-b.ensures.0 at c.load.ensures

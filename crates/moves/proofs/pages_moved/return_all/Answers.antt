@@ -1,0 +1,30 @@
+-- `moves::pages_moved::return_all` meets its contract. To return the pages left, from the memory as it is, is to return them all. The measure is what is left. Assumes nothing.
+use mathlib.Core.Path.{refl, sym, ap, ◌∙◌}
+use mathlib.Core.List.{List}
+use Prim.Native.Nat.{ℕ, ◌+◌}
+use native.Mathlib.Omega.{arith}
+use borrow.Author.Rules.{rules}
+use lib.ListN.{drop}
+use Rattle.rules.proofs.Releases.{return_all-more, return_all-end}
+use Rattle.rules.specs.Moves.{return_all}
+use Rattle.moves.proofs.pages_moved.return_all.Goals as goal
+
+pub loop-i-init : goal.loop-i-init
+loop-i-init c = (refl, search rules, search rules)
+
+pub loop-i-preserved : goal.loop-i-preserved
+loop-i-preserved c =
+    let s = c.args in
+    let p = c.loop-i in (
+      ap (λ (x : List ℕ). return_all s.b x s.d.0 (drop (p.i + 1) s.vs.now)) c.return_page.ensures
+          ∙ sym (return_all-more s.b p.m s.d.0 s.vs.now p.i (omega arith))
+          ∙ p.invariant.0,
+      omega arith,
+      omega arith,
+    )
+
+pub returns : goal.returns
+returns c =
+    let s = c.args in
+    let p = c.loop-i in
+    sym (return_all-end s.b p.m s.d.0 s.vs.now p.i (omega arith)) ∙ p.invariant.0

@@ -1,0 +1,5 @@
+-- `pages::words::read_word` meets its contract. The index is that of word i of page p. Assumes nothing.
+use Rattle.pages.proofs.words.read_word.Goals as goal
+
+pub returns : goal.returns
+returns c = cc

@@ -1,0 +1,8 @@
+-- `startup::write_record` meets its contract. The width is that of the memory, and the verdict that of the judge. Assumes nothing.
+use Rattle.startup.proofs.write_record.Goals as goal
+
+pub write-requires : goal.write-requires
+write-requires c = record { width = c.width-b.ensures.1; tested = rw c.width-b.ensures.0 c.is_sound-good.ensures }
+
+pub returns : goal.returns
+returns c = rw c.width-b.ensures.0 at c.write.ensures
