@@ -1,4 +1,4 @@
--- `block_exports::calls::tumashqin_block_add` meets its contract. What the kernel's call answers is packed. Assumes nothing.
+-- `block_exports::numbered::tumashqin_block_add` meets its contract. What the kernel's call answers is packed. Assumes nothing.
 use Rattle.block_exports.proofs.Replies.{packs}
 use Rattle.block_exports.proofs.calls.tumashqin_block_add.Goals as goal
 

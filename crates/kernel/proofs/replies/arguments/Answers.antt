@@ -1,0 +1,12 @@
+-- `kernel::replies::arguments` meets its contract. Assumes nothing.
+use Rattle.kernel.proofs.replies.arguments.Goals as goal
+
+pub returns : goal.returns
+returns c =
+    rw (
+      c.read.ensures,
+      c.read-2.ensures,
+      c.read-3.ensures,
+      c.read-4.ensures,
+      c.read-5.ensures,
+    )
