@@ -1,5 +1,5 @@
 /* The worked case of docs/BLOCKS.md from C. Build and run from the repository, after `rt lib` in crates/block_exports:
- *   gcc -std=c99 -Wall -Wextra -Iinclude bindings/c/blocks.c crates/block_exports/out/libblock_exports.a -o /tmp/blocks && /tmp/blocks
+ *   gcc -std=c99 -Wall -Wextra -Iinclude bindings/c/blocks.c crates/block_exports/out/libblock_exports.a -o target/blocks && target/blocks
  * It prints what bindings/c/blocks.txt has, and ends with exit status 1 where a word is wrong. */
 #include <inttypes.h>
 #include <stdio.h>

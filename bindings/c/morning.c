@@ -1,5 +1,5 @@
 /* Document 01's bench morning from C. Build and run from the repository, after `rt lib` in crates/exports:
- *   gcc -std=c99 -Wall -Wextra -Iinclude bindings/c/morning.c crates/exports/out/libexports.a -o /tmp/morning && /tmp/morning */
+ *   gcc -std=c99 -Wall -Wextra -Iinclude bindings/c/morning.c crates/exports/out/libexports.a -o target/morning && target/morning */
 #include <inttypes.h>
 #include <stdio.h>
 
