@@ -1,4 +1,4 @@
-/* The worked case of docs/BLOCKS.md from C. Build and run from the repository, after `rt lib` in crates/block_exports:
+/* The worked case of docs/BLOCKS.md from C. Build and run from the repository, after `rt lib` in crates/block_exports and `mkdir -p target`:
  *   gcc -std=c99 -Wall -Wextra -Iinclude bindings/c/blocks.c crates/block_exports/out/libblock_exports.a -o target/blocks && target/blocks
  * It prints what bindings/c/blocks.txt has, and ends with exit status 1 where a word is wrong. */
 #include <inttypes.h>

@@ -1,4 +1,4 @@
-/* Document 01's bench morning from C. Build and run from the repository, after `rt lib` in crates/exports:
+/* Document 01's bench morning from C. Build and run from the repository, after `rt lib` in crates/exports and `mkdir -p target`:
  *   gcc -std=c99 -Wall -Wextra -Iinclude bindings/c/morning.c crates/exports/out/libexports.a -o target/morning && target/morning */
 #include <inttypes.h>
 #include <stdio.h>

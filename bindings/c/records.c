@@ -1,4 +1,4 @@
-/* The verdict and the start-up record from C. Build and run from the repository, after `rt lib` in crates/exports:
+/* The verdict and the start-up record from C. Build and run from the repository, after `rt lib` in crates/exports and `mkdir -p target`:
  *   gcc -std=c99 -Wall -Wextra -Iinclude bindings/c/records.c crates/exports/out/libexports.a -o target/records && target/records
  * It prints what bindings/c/records.txt has. */
 #include <inttypes.h>
