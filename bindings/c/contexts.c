@@ -1,5 +1,5 @@
 /* Saved contexts from C: a partition notifies its child and the child its parent, and each is resumed. Build and run from the repository, after
- * `rt lib` in crates/exports:
+ * `rt lib` in crates/exports and `mkdir -p target`:
  *   gcc -std=c99 -Wall -Wextra -Iinclude bindings/c/contexts.c crates/exports/out/libexports.a -o target/contexts && target/contexts
  * It prints what bindings/c/contexts.txt has, and ends with exit status 1 where an answer or a word is wrong. */
 #include <inttypes.h>
