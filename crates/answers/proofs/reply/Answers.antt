@@ -1,15 +1,7 @@
 -- `answers::reply` meets its contract: each arm is its number. Assumes nothing.
-use mathlib.Core.Path.{◌≡◌}
-use Prim.Native.Nat.{ℕ, ◌+◌, ◌≤◌}
 use native.Mathlib.Omega.{arith}
 use Rattle.rules.proofs.Rows.{reply-ok, reply-no}
 use Rattle.answers.proofs.reply.Goals as goal
-
-least-most : (n k : ℕ) → k ≤ n → n ≤ k → n ≡ k
-least-most n k a b = omega arith
-
-more : {n : ℕ} (k : ℕ) → k ≤ n → ¬ (n ≡ k) → k + 1 ≤ n
-more k a b = omega arith
 
 pub returns-in-0 : goal.returns-in-0
 returns-in-0 c = reply-ok _ _ (omega arith)

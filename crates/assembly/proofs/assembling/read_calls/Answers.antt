@@ -17,10 +17,10 @@ loop-i-init c = (
 pub returns-then-why-ne0 : goal.returns-then-why-ne0
 returns-then-why-ne0 c =
     let p = c.loop-i in
-    let line_at_lem = c.line_at-p in
+    let line = c.line_at-p in
     let s = c.args in (
       stops s.text.now s.out.now s.n p.invariant.0
-          line_at_lem.ensures c.read_line-r.ensures c.if-why-ne0.true,
+          line.ensures c.read_line-r.ensures c.if-why-ne0.true,
       search rules,
     )
 
@@ -29,20 +29,20 @@ overflow_add-count c = omega (arith, c.read_line-r.ensures.few)
 
 pub loop-i-smaller : goal.loop-i-smaller
 loop-i-smaller c =
-    let line_at_lem = c.line_at-p in
+    let line = c.line_at-p in
     omega (
       arith,
-      line_at_lem.ensures.after,
-      line_at_lem.ensures.order,
-      line_at_lem.ensures.within,
+      line.ensures.after,
+      line.ensures.order,
+      line.ensures.within,
     )
 
 pub loop-i-preserved : goal.loop-i-preserved
 loop-i-preserved c =
     let p = c.loop-i in
-    let line_at_lem = c.line_at-p in
+    let line = c.line_at-p in
     let s = c.args in
-    let l = line_at_lem.ensures in
+    let l = line.ensures in
     let r = c.read_line-r.ensures in (
       goes_on s.text.now s.out.now s.n p.invariant.0 l r
           c.if-why-ne0.false,

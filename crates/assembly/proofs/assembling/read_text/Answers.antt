@@ -12,10 +12,10 @@ pub returns-then-n-eq0 : goal.returns-then-n-eq0
 returns-then-n-eq0 c =
     let s = c.args in
     let p = c.loop-i in
-    let line_at_lem = c.line_at-p in
+    let line = c.line_at-p in
     let n = c.count_words in (
       no-pages s.text.now _
-          line_at_lem.ensures _ c.pages_of-n.ensures
+          line.ensures _ c.pages_of-n.ensures
           (λ q. c.if-count_words-ne0.true (n.ensures.0 ∙ q)) c.if-n-eq0.true ∙
           p.invariant.0,
       search rules,
@@ -37,13 +37,13 @@ pub returns-then-count_words-ne0 : goal.returns-then-count_words-ne0
 returns-then-count_words-ne0 c =
     let s = c.args in
     let p = c.loop-i in
-    let line_at_lem = c.line_at-p in
+    let line = c.line_at-p in
     let first = c.if-count_words-ne0 in
     let pages-of = c.pages_of-n in
     let n = c.count_words in
     let r = c.read_calls.ensures in (
       r.0 ∙ pages s.text.now
-          _ line_at_lem.ensures _
+          _ line.ensures _
           pages-of.ensures
           (λ q. first.true (n.ensures.0 ∙ q)) c.if-n-eq0.false ∙
           p.invariant.0,

@@ -1,22 +1,7 @@
 -- `block_answers::replies::reply` meets its contract: each arm is its number. Assumes nothing.
-use mathlib.Core.Path.{◌≡◌}
-use mathlib.Core.Logic.{◌≢◌}
-use Prim.Native.Nat.{ℕ, zero, suc, ◌≤◌, zero-le}
 use native.Mathlib.Omega.{arith}
 use Rattle.common.proofs.Rows.{reply-ok, reply-no}
 use Rattle.block_answers.proofs.replies.reply.Goals as goal
-
--- the last arm: n is none of the numbers below k
-abbrev Past : ℕ → ℕ → Type 0
-Past n zero = Unit {0}
-Past n (suc k) = Past n k × (n ≢ k)
-
-past : (n k : ℕ) → Past n k → k ≤ n
-past n zero h = zero-le
-past n (suc k) (h, e) = omega (arith, past n k h)
-
-last : (n k : ℕ) → Past n k → n ≤ k → n ≡ k
-last n k h l = omega (arith, past n k h)
 
 pub returns-in-0 : goal.returns-in-0
 returns-in-0 c = reply-ok _ _ (omega arith)

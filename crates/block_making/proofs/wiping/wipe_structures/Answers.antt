@@ -4,17 +4,12 @@ use mathlib.Core.List.{List}
 use Prim.Native.Nat.{ℕ, ◌+◌}
 use native.Mathlib.Omega.{arith}
 use lib.ListN.{drop}
-use Rattle.block_memory.specs.Words
 use Rattle.block_memory.specs.Words.{over}
 use Rattle.block_memory.specs.Partition
-use Rattle.block_making.specs.Deleting.{passing}
 use Rattle.block_making.proofs.Turns.{length-all, turn, last_turn}
 use Rattle.block_making.proofs.Gone.{wiped}
+use Rattle.block_making.proofs.wiping.wipe_structures.Invariants.{wipe_at}
 use Rattle.block_making.proofs.wiping.wipe_structures.Goals as goal
-
--- a structure is wiped if one is there
-abbrev wipe_at : List ℕ → ℕ → List ℕ
-wipe_at = passing (λ w i. Words.wipe w i 74)
 
 pub loop-i-init : goal.loop-i-init
 loop-i-init c = (refl, refl)

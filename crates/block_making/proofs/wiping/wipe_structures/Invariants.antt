@@ -9,7 +9,7 @@ use Rattle.block_making.specs.Deleting.{passing}
 use Rattle.block_making.proofs.wiping.wipe_structures.Given as goal
 
 -- a structure is wiped if one is there
-abbrev wipe_at : List ℕ → ℕ → List ℕ
+abbrev pub wipe_at : List ℕ → ℕ → List ℕ
 wipe_at = passing (λ w i. Words.wipe w i 74)
 
 abbrev pub invariant-loop-i : goal.invariant-loop-i

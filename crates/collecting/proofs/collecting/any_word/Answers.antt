@@ -1,16 +1,12 @@
 -- `collecting::collecting::any_word` meets its contract. The words passed are 0. The measure is what is left. Assumes nothing.
-use mathlib.Core.Bool.{Bool, not}
+use mathlib.Core.Bool.{not}
 use mathlib.Core.Path.{refl, sym, ap, ◌∙◌}
-use Prim.Native.Nat.{ℕ}
 use native.Mathlib.Omega.{arith}
-use lib.Dec.{eqb}
 use borrow.Author.Rules.{rules}
 use borrow.Author.Tests.{ne_eqb, eq-eqb}
 use Rattle.moves.proofs.Groups.{any_here, any_next, any-end}
+use Rattle.collecting.proofs.collecting.any_word.Invariants.{used}
 use Rattle.collecting.proofs.collecting.any_word.Goals as goal
-
-abbrev used : ℕ → Bool
-used w = not (eqb w 0)
 
 pub loop-i-init : goal.loop-i-init
 loop-i-init c = (refl, search rules)

@@ -7,7 +7,7 @@ use lib.ListN.{length, drop}
 use Rattle.walk.specs.Finite.{any}
 use Rattle.collecting.proofs.collecting.any_word.Given as goal
 
-abbrev used : ℕ → Bool
+abbrev pub used : ℕ → Bool
 used w = not (eqb w 0)
 
 abbrev pub invariant-loop-i : goal.invariant-loop-i

@@ -21,6 +21,6 @@ pub returns : goal.returns
 returns c =
     let s = c.args in
     let wrong_size = c.wrong_size in
-    let width_of_lem = c.width_of-b in
-    formatted s.m.now s.edition (omega arith) width_of_lem.ensures.0 (sym wrong_size.ensures ∙ c.if-wrong_size.false)
+    let read_width = c.width_of-b in
+    formatted s.m.now s.edition (omega arith) read_width.ensures.0 (sym wrong_size.ensures ∙ c.if-wrong_size.false)
     c.format_effect.ensures

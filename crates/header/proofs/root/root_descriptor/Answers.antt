@@ -1,7 +1,6 @@
 -- `header::root::root_descriptor` meets its contract. Assumes nothing.
 use mathlib.Core.Path.{◌≡◌, refl, sym, ap, ◌∙◌}
 use mathlib.Core.Bool.{Bool, true, false, ◌||◌}
-use mathlib.Core.List.{List}
 use Prim.Native.Nat.{ℕ, ◌≤◌}
 use native.Mathlib.Omega.{arith}
 use lib.Dec.{eqb}
@@ -13,11 +12,8 @@ use Rattle.memory.proofs.Widths.{words-least}
 use Rattle.header.proofs.Laws.Formatted.{descriptor-zeros, flag-passes}
 use Rattle.own_pages.proofs.Laws.Loops.{all_go, all-stop, all_end, rest-stop, rest_end}
 use Rattle.own_pages.proofs.Laws.Tests.{equal, unequal}
+use Rattle.header.proofs.root.root_descriptor.Invariants.{as-left}
 use Rattle.header.proofs.root.root_descriptor.Goals as goal
-
--- word j of the descriptor is as format leaves it, or the flag
-abbrev as-left : ℕ → List ℕ → ℕ → Bool
-as-left b m j = eqb j 12 || eqb (word b m 1 j) (root_descriptor_word b j)
 
 -- behind the flag the words are 0
 behind : (b j x : ℕ) → 13 ≤ j → (eqb j 12 || eqb x (root_descriptor_word b j)) ≡ eqb x 0

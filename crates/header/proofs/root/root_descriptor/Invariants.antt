@@ -10,7 +10,7 @@ use Rattle.memory.specs.Words.{word}
 use Rattle.header.proofs.root.root_descriptor.Given as goal
 
 -- word j of the descriptor is as format leaves it, or the flag
-abbrev as-left : ℕ → List ℕ → ℕ → Bool
+abbrev pub as-left : ℕ → List ℕ → ℕ → Bool
 as-left b m j = eqb j 12 || eqb (word b m 1 j) (root_descriptor_word b j)
 
 abbrev pub invariant-loop-i : goal.invariant-loop-i

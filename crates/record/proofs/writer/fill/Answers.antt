@@ -8,7 +8,7 @@ pub returns : goal.returns
 returns c =
     let page-bytes = c.page_bytes in
     let begin = c.little_endian-begin in
-    let end_of_lem = c.end_of in
+    let end_byte = c.end_of in
     let end = c.little_endian-end in
     let put-bytes = c.put_bytes in
     let put-bytes2 = c.put_bytes-2 in
@@ -17,4 +17,4 @@ returns c =
     let s = c.args in
     in_parts s.b s.m.now s.revision.now s.out.now begin.result end.result put-bytes.new.out put-bytes2.new.out
     put-bytes3.new.out put-bytes4.new.out (begin.ensures ∙ ap little_endian page-bytes.ensures.0)
-    (end.ensures ∙ ap little_endian end_of_lem.ensures) put-bytes.ensures put-bytes2.ensures put-bytes3.ensures put-bytes4.ensures
+    (end.ensures ∙ ap little_endian end_byte.ensures) put-bytes.ensures put-bytes2.ensures put-bytes3.ensures put-bytes4.ensures

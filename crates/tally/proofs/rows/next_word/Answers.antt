@@ -11,11 +11,8 @@ use Rattle.tally.specs.Search.{seek}
 use Rattle.tally.specs.Rows.{used}
 use Rattle.tally.proofs.Laws.Search.{seek-on, seek-here, seek-end}
 use Rattle.tally.proofs.Laws.Blocks.{empty-end, empty-past}
+use Rattle.tally.proofs.rows.next_word.Invariants.{Come}
 use Rattle.tally.proofs.rows.next_word.Goals as goal
-
--- the search from i on has come to j
-abbrev Come : List ℕ → ℕ → ℕ → Type 0
-Come s i j = (j ≤ length s) × (seek (used s) (length s - i) i ≡ seek (used s) (length s - j) j)
 
 module _ (s : List ℕ) (i j : ℕ) (h : Come s i j) where
   at-end : length s ≤ j → j ≡ seek (used s) (length s - i) i

@@ -8,7 +8,7 @@ use Rattle.tally.specs.Rows.{used}
 use Rattle.tally.proofs.rows.next_word.Given as goal
 
 -- the search from i on has come to j
-abbrev Come : List ℕ → ℕ → ℕ → Type 0
+abbrev pub Come : List ℕ → ℕ → ℕ → Type 0
 Come s i j = (j ≤ length s) × (seek (used s) (length s - i) i ≡ seek (used s) (length s - j) j)
 
 abbrev pub invariant-loop-j : goal.invariant-loop-j

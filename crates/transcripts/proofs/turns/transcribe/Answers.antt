@@ -17,9 +17,9 @@ word_in-i-requires c = omega (arith, (header c.args.bytes.now c.requires.bytes_v
 
 pub loop-n-init : goal.loop-n-init
 loop-n-init c =
-    let width_of_lem = c.width_of in
+    let width = c.width_of in
     let word_in = c.word_in in (
-      start c.args.bytes.now {m = c.args.m.now} width_of_lem.ensures.0 c.requires.bytes_value c.requires.formatted word_in.ensures
+      start c.args.bytes.now {m = c.args.m.now} width.ensures.0 c.requires.bytes_value c.requires.formatted word_in.ensures
           c.put_first_line-at.ensures.0 c.word_in-n.ensures c.word_in-i.ensures,
       search rules,
       search rules,
