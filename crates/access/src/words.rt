@@ -1,81 +1,70 @@
 // load and store: the word at an address of the caller.
-ghost use Rattle.std.specs.Prelude.{◌≡◌, ◌≤◌};
+ghost use Rattle.std.specs.Prelude.{◌≡◌};
 ghost use Rattle.soundness.specs.Test.{sound_test};
 ghost use Rattle.rules.specs.Row.{first};
 ghost use Rattle.rules.specs.Call;
 ghost use Rattle.rules.specs.Effects;
 ghost use Rattle.rules.specs.Effects.{word_at};
 ghost use Rattle.rules.specs.Calls.{answer, after};
-ghost use Rattle.pages.specs.Width.{Width};
-ghost use Rattle.answers.specs.Said.{said};
+ghost use Rattle.answers.specs.Said.{refusal_in, said};
 ghost use Rattle.access.specs.Access.{checks};
 
-use answers::Answer;
+use answers::{Answer, Refusal};
+use pages::IndexWidth;
 
 // 1 3 15 16 6, where the right that is asked for is read or write.
-fn refusal(b: u32, m: &[u32], good: bool, right: u32, a: u32) -> u32
-    requires width { Width b }
-    requires judged { good ≡ sound_test b m.now }
-    ensures { (result ≡ first (checks b m.now right a)) × (result ≤ 16) }
+fn refusal(b: IndexWidth, m: &[u32], good: bool, right: u32, a: u32) -> Result<(), Refusal>
+    requires judged { good ≡ sound_test b.bits m.now }
+    ensures { refusal_in result ≡ first (checks b.bits m.now right a) }
 {
     if !good {
-        return 1;
+        return Err(Refusal::Damaged);
     }
     if pages::bad_address(b, 4, a) {
-        return 3;
+        return Err(Refusal::Address);
     }
     if moves::unmapped(b, m, pages::current(b, m), a) {
-        return 15;
+        return Err(Refusal::Unmapped);
     }
     if moves::inaccessible(b, m, a) {
-        return 16;
+        return Err(Refusal::Kernel);
     }
     if moves::lacks(b, right, m, a) {
-        return 6;
+        return Err(Refusal::Rights);
     }
-    0
+    Ok(())
 }
 
 // Where the word of a load or a store stands.
-fn word_at(b: u32, m: &[u32], a: u32) -> usize
-    requires { Width b }
-    ensures { result ≡ word_at b m.now a }
+fn word_at(b: IndexWidth, m: &[u32], a: u32) -> usize
+    ensures { result ≡ word_at b.bits m.now a }
 {
     let w = pages::mapping(b, m, pages::current(b, m), a);
     pages::index(b, pages::page_of(b, w), pages::place(b, a) / 4)
 }
 
 // "answers the word"
-pub fn load(b: u32, m: &[u32], good: bool, a: u32) -> Answer
-    requires width { Width b }
-    requires judged { good ≡ sound_test b m.now }
-    ensures { (said result ≡ answer b m.now (Call.load a)) × (m.now ≡ after b m.now (Call.load a)) }
+pub fn load(b: IndexWidth, m: &[u32], good: bool, a: u32) -> Answer
+    requires judged { good ≡ sound_test b.bits m.now }
+    ensures { (said result ≡ answer b.bits m.now (Call.load a)) × (m.now ≡ after b.bits m.now (Call.load a)) }
 {
-    let n = refusal(b, m, good, 1, a);
-    if n != 0 {
-        return answers::reply(n, 0);
-    }
-    answers::reply(0, pages::read(m, word_at(b, m, a)))
+    refusal(b, m, good, 1, a)?;
+    Ok(pages::read(m, word_at(b, m, a)))
 }
 
 // "writes it"
-fn store_effect(b: u32, m: &mut [u32], a: u32, x: u32)
-    requires { Width b }
-    ensures { m.new ≡ Effects.effect b m.old (Call.store a x) }
+fn store_effect(b: IndexWidth, m: &mut [u32], a: u32, x: u32)
+    ensures { m.new ≡ Effects.effect b.bits m.old (Call.store a x) }
 {
     let i = word_at(b, m, a);
     pages::write(m, i, x);
 }
 
-pub fn store(b: u32, m: &mut [u32], good: bool, a: u32, x: u32) -> Answer
-    requires width { Width b }
-    requires judged { good ≡ sound_test b m.old }
-    ensures { (said result ≡ answer b m.old (Call.store a x)) × (m.new ≡ after b m.old (Call.store a x)) }
+pub fn store(b: IndexWidth, m: &mut [u32], good: bool, a: u32, x: u32) -> Answer
+    requires judged { good ≡ sound_test b.bits m.old }
+    ensures { (said result ≡ answer b.bits m.old (Call.store a x)) × (m.new ≡ after b.bits m.old (Call.store a x)) }
 {
-    let n = refusal(b, m, good, 2, a);
-    if n != 0 {
-        return answers::reply(n, 0);
-    }
+    refusal(b, m, good, 2, a)?;
     store_effect(b, m, a, x);
-    answers::reply(0, 0)
+    Ok(0)
 }

@@ -1,36 +1,24 @@
 -- The program writes the script and the message, and no more.
-use Rattle.std.proofs.Common.{arith, ◌≡◌, ◌∙◌, refl, ap, subst, ℕ, ◌≤◌, List, [], ◌∷◌, Option, None, Some, IfSome, Result, Ok, Err, OnOk, length, take}
+use Rattle.std.proofs.Common.{◌≡◌, ◌∙◌, refl, ap, subst, ℕ, ◌≤◌, List, [], Option, None, Some, IfSome, Result, Ok, Err, OnOk, length, take}
 use Rattle.std.specs.Io.KnownBytes.{Appends}
-use Rattle.common.specs.Words.{overwrite}
 use Rattle.script.specs.Lines.{Put}
+use Rattle.script.proofs.Puts.{put_front}
 use Rattle.assembly.specs.Assembled.{assembled}
 use Rattle.assembly.specs.Messages.{message}
 use Rattle.assembly.specs.Told.{told, size, script_of}
-use Rattle.assembly.specs.declared.Assembled.{Assembled}
-use Rattle.assembly.specs.declared.Assembled.TheVariants.{Script, Unread, TooLong}
-
-front : (xs ws : List ℕ) → length ws ≤ length (overwrite xs 0 ws) → take (length ws) (overwrite xs 0 ws) ≡ ws
-front [] [] h = refl
-front [] (w ∷ ws) h = absurd (grind (arith))
-front (x ∷ xs) [] h = refl
-front (x ∷ xs) (w ∷ ws) h = ap (λ l. w ∷ l) (front xs ws (grind (arith)))
-
-put_front : (xs out ws : List ℕ) (r : ℕ) → Put xs out 0 r ws → r ≤ length out → take r out ≡ ws
-put_front xs out ws r p h =
-    let same : r ≡ length ws = grind (arith, p.next) in
-    let fits : length ws ≤ length (overwrite xs 0 ws) = subst (λ o. length ws ≤ length o) p.bytes (subst (λ k. k ≤ length out) same h) in
-    ap (λ k. take k out) same ∙ ap (λ o. take (length ws) o) p.bytes ∙ front xs ws fits
+use Rattle.assembly.specs.declared.Unassembled.TheVariants.{Unread, TooLong}
+use Rattle.assembly.proofs.Answers.{Assembled}
 
 script_front : (a : Assembled) (out : List ℕ) → take (size a) out ≡ script_of (told a out)
-script_front (Script n) out = refl
-script_front (Unread k why) out = refl
-script_front TooLong out = refl
+script_front (Ok n) out = refl
+script_front (Err (Unread k why)) out = refl
+script_front (Err TooLong) out = refl
 
 same_message : (a : Assembled) (out : List ℕ) → message (told a []) ≡ message (told a out)
 unfolding message
-same_message (Script n) out = refl
-same_message (Unread k why) out = refl
-same_message TooLong out = refl
+same_message (Ok n) out = refl
+same_message (Err (Unread k why)) out = refl
+same_message (Err TooLong) out = refl
 
 pub writes_script : {T E : Type 0} (a : Assembled) (out text : List ℕ) (n s : ℕ) (read old new : Option (List ℕ)) (done : Result T E)
     → length text ≡ 65537 → IfSome read (λ bs. take n text ≡ take (length text) bs) → told a out ≡ assembled (take n text) → s ≡ size a

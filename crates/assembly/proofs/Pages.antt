@@ -1,7 +1,7 @@
 -- The line that has N, by what the tests say. Assumes nothing.
 use mathlib.Core.Path.{◌≡◌, refl, sym, ap, ◌∙◌}
 use mathlib.Core.Bool.{true, false}
-use mathlib.Core.List.{List, ◌∷◌}
+use mathlib.Core.List.{List, [], ◌∷◌}
 use Prim.Native.Nat.{ℕ, ◌≤◌, ◌<◌}
 use lib.ListN.{length}
 use borrow.Author.Tests.{eq-eqb, ne_eqb, le-leb, lt-leb}
@@ -32,12 +32,12 @@ module _ (w : List ℕ) (ws : List (List ℕ)) where
   unfolding pages_of
   good z f h k = rw (eq-eqb (length ws) 0 z, f, le-leb 16 (number w) h, le-leb (number w) 256 k) refl
 
+pub no_word : (s : List ℕ) → split s ≡ [] → 0 ≡ pages_of (split s)
+unfolding pages_of
+no_word s q = ap pages_of (sym q)
+
 -- a line whose first word stands from a up to e; `others` words follow
 module _ (s : List ℕ) {a e : ℕ} (n : NextWord s 0 a e) where
-  pub no_word : a ≡ e → 0 ≡ pages_of (split s)
-  unfolding pages_of
-  no_word q = ap pages_of (sym (n.none q))
-
   module _ (l : a < e) (others : ℕ) (o : others ≡ length (split (part s e (length s)))) where
     words : pages_of (part s a e ∷ split (part s e (length s))) ≡ pages_of (split s)
     words = ap pages_of (ap (λ (r : List ℕ). part s a e ∷ split r) (to_end s e) ∙ sym (n.word l))

@@ -12,6 +12,9 @@ use Rattle.rules.specs.Replay.{argument_count}
 use Rattle.text.specs.Numbers.{all_numbers}
 use Rattle.text.specs.Names.{call_number}
 use Rattle.text.specs.Lines.{reason}
+use Rattle.assembly.specs.declared.Reason.{Reason}
+use Rattle.assembly.specs.declared.Reason.TheVariants.{NoPages, UnknownCall, TooFew, TooMany, NoNumber, LongScript, NoLine}
+use Rattle.assembly.specs.Told.{number_of}
 
 row : Bool → Bool → Bool → Bool → Bool → ℕ
 row unknown few many other long = cond unknown 2 (cond few 3 (cond many 4 (cond other 5 (cond long 6 0))))
@@ -75,3 +78,13 @@ module _ (at : ℕ) (w : List ℕ) (ws : List (List ℕ)) where
     pub none : (n ≡ 0 → ⊥) → most ≤ given → given ≤ most → all_numbers ws ≡ true → at + 4 + 4 * given ≤ 4096 → 0 ≡ reason at (w ∷ ws)
     unfolding row
     none e h k f l = rw (ne_eqb n 0 e, le-ltb given most h, le-ltb most given k, f, le-ltb 4096 (at + 4 + 4 * given) l) at by_row
+
+-- a reason has a number other than 0
+pub number-some : (why : Reason) → number_of why ≡ 0 → ⊥
+number-some NoPages e = omega arith
+number-some UnknownCall e = omega arith
+number-some TooFew e = omega arith
+number-some TooMany e = omega arith
+number-some NoNumber e = omega arith
+number-some LongScript e = omega arith
+number-some NoLine e = omega arith

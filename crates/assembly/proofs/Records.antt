@@ -47,14 +47,11 @@ module _ (s before : List ℕ) (at : ℕ) where
   pub begun : all_numbers (split s) ≡ true → at + 4 * length (split s) ≤ length before → Putting s before before at at 0
   begun e h = record { done = []; put = put-none before at; whole = refl; numbers = e; room = h }
 
-  module _ {out : List ℕ} {to i a e : ℕ} (p : Putting s before out at to i) (n : NextWord s i a e) where
-    pub over : a ≡ e → Put before out at to (arguments (split s))
-    unfolding arguments
-    over q =
-        let none : p.done ≡ arguments (split s) =
-        sym (append-nil p.done) ∙ ap (λ (ws : List (List ℕ)). p.done ++ arguments ws) (sym (n.none q)) ∙ p.whole in
-        put_same none p.put
+  pub over : {out : List ℕ} {to i : ℕ} → Putting s before out at to i → split (drop i s) ≡ [] → Put before out at to (arguments (split s))
+  unfolding arguments
+  over p q = put_same (sym (append-nil p.done) ∙ ap (λ (ws : List (List ℕ)). p.done ++ arguments ws) (sym q) ∙ p.whole) p.put
 
+  module _ {out : List ℕ} {to i a e : ℕ} (p : Putting s before out at to i) (n : NextWord s i a e) where
     pub is-number : a < e → is_number (part s a e) ≡ true
     is-number l = (number-here s n l p.numbers).0
 
@@ -78,25 +75,21 @@ module _ (s before : List ℕ) (at : ℕ) where
 
 -- ---- a line
 
-pub record_put : {m n o : List ℕ} {i j k : ℕ} (w : List ℕ) (ws : List (List ℕ)) → Put m n i j (little_endian (call_number w)) → Put n o j k (arguments ws)
-    → Put m o i k (record_of (w ∷ ws))
-unfolding record_of
-record_put w ws p q = put_then p q
+pub skipped : (s out : List ℕ) (at : ℕ) → at ≤ 4096 → split s ≡ [] → LineRead (split s) out out at 0 0 at
+unfolding reason calls_in record_of
+skipped s out at room q = rw q (record { why_is = refl; calls_is = λ z. refl; put = λ z. put-none out at; few = omega arith; room = room })
 
-module _ (s out : List ℕ) (at a e : ℕ) (n : NextWord s 0 a e) (room : at ≤ 4096) where
-  pub skipped : a ≡ e → LineRead (split s) out out at 0 0 at
-  unfolding reason calls_in record_of
-  skipped q = rw (n.none q) (record { why_is = refl; calls_is = λ z. refl; put = λ z. put-none out at; few = omega arith; room = room })
-
+module _ (s out : List ℕ) (at a e : ℕ) (n : NextWord s 0 a e) (l : a < e) where
   -- the words are those that the code reads
-  words : a < e → split s ≡ part s a e ∷ split (part s e (length s))
-  words l = n.word l ∙ ap (λ (r : List ℕ). part s a e ∷ split r) (sym (to_end s e))
+  words : split s ≡ part s a e ∷ split (part s e (length s))
+  words = n.word l ∙ ap (λ (r : List ℕ). part s a e ∷ split r) (sym (to_end s e))
 
-  pub refused : (why : ℕ) → a < e → why ≡ reason at (part s a e ∷ split (part s e (length s))) → (why ≡ 0 → ⊥) → LineRead (split s) out out at why 0 at
-  refused why l q z =
-      rw (words l) (record { why_is = q; calls_is = λ y. absurd (z y); put = λ y. absurd (z y); few = omega arith; room = room })
+  pub refused : (why : ℕ) → why ≡ reason at (part s a e ∷ split (part s e (length s))) → why ≡ reason at (split s)
+  refused why q = q ∙ ap (reason at) (sym words)
 
-  pub taken : {after : List ℕ} {next : ℕ} → a < e → 0 ≡ reason at (part s a e ∷ split (part s e (length s)))
-      → Put out after at next (record_of (part s a e ∷ split (part s e (length s)))) → next ≤ 4096 → LineRead (split s) out after at 0 1 next
-  unfolding calls_in
-  taken l q p m = rw (words l) (record { why_is = q; calls_is = λ y. refl; put = λ y. p; few = omega arith; room = m })
+  pub taken : {after : List ℕ} {next call : ℕ} → call ≡ call_number (part s a e) → reason at (part s a e ∷ split (part s e (length s))) ≡ 0
+      → Put out after at next (little_endian call ++ arguments (split (part s e (length s)))) → next ≤ 4096 → LineRead (split s) out after at 0 1 next
+  unfolding calls_in record_of
+  taken c q p m =
+      let put = put_same (ap (λ (k : ℕ). little_endian k ++ arguments (split (part s e (length s)))) c) p in
+      rw words (record { why_is = sym q; calls_is = λ y. refl; put = λ y. put; few = omega arith; room = m })

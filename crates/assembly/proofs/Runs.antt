@@ -2,14 +2,14 @@
 use mathlib.Core.Path.{◌≡◌, refl, sym, ap, ◌∙◌}
 use mathlib.Core.List.{List, [], ◌∷◌, ◌++◌}
 use Prim.Native.Nat.{ℕ, ◌+◌, ◌≤◌}
-use native.Mathlib.Nat.{zero-add, suc-add, le_of_suc-le-suc, not-suc-le-zero}
+use native.Mathlib.Nat.{zero-add, suc-add}
 use native.Mathlib.Numerals.{add-one}
 use native.Mathlib.Omega.{arith}
 use lib.ListN.{length, take, drop}
 use borrow.Author.Tests.{eq-eqb, ne_eqb}
 use Rattle.memory.specs.Words.{overwrite}
 use Rattle.script.specs.Lines.{Put}
-use Rattle.script.proofs.Puts.{put_then}
+use Rattle.script.proofs.Puts.{put_then, take-over}
 use Rattle.text.specs.Text.{lines, split, words}
 use Rattle.text.specs.Lines.{pages_of, record_of, calls_in, reason}
 use Rattle.assembly.specs.Assembled.{Result, written, unread, header, calls, begin}
@@ -38,36 +38,32 @@ module _ (text start : List ℕ) (n : ℕ) where
   pub reading : (i k : ℕ) → Reading text start start n (calls n k 0 [] (lines (drop i text))) i k 0 12
   reading i k = record { records = []; put = put-none start 12; left = refl }
 
-  module _ {goal : Result} {out after : List ℕ} {i k count at f e why more next : ℕ} (r : Reading text start out n goal i k count at)
-      (l : LineAt text i f e) (d : LineRead (split (part text i f)) out after at why more next) where
+  module _ {goal : Result} {out : List ℕ} {i k count at f e : ℕ} (r : Reading text start out n goal i k count at)
+      (l : LineAt text i f e) where
     line-words : words (part text i e) ≡ split (part text i f)
     line-words = ap split l.read
 
     here : calls n k count r.records (part text i e ∷ lines (drop (e + 1) text)) ≡ goal
     here = ap (calls n k count r.records) (sym l.line) ∙ r.left
 
-    why-here : why ≡ reason (12 + length r.records) (split (part text i f))
-    why-here = d.why_is ∙ ap (λ (j : ℕ). reason j (split (part text i f))) r.put.next
+    why-here : {why : ℕ} → why ≡ reason at (split (part text i f)) → why ≡ reason (12 + length r.records) (split (part text i f))
+    why-here q = q ∙ ap (λ (j : ℕ). reason j (split (part text i f))) r.put.next
 
-    pub stops : (why ≡ 0 → ⊥) → unread k why ≡ goal
-    stops z = stop n k count r.records (part text i e) (lines (drop (e + 1) text)) (split (part text i f)) why line-words why-here z ∙ here
+    pub stops : {why : ℕ} → why ≡ reason at (split (part text i f)) → (why ≡ 0 → ⊥) → unread k why ≡ goal
+    stops {why} q z = stop n k count r.records (part text i e) (lines (drop (e + 1) text)) (split (part text i f)) why line-words (why-here q) z ∙ here
 
-    pub goes_on : why ≡ 0 → Reading text start after n goal (e + 1) (k + 1) (count + more) next
-    goes_on z = record {
+    pub goes_on : {after : List ℕ} {more next : ℕ} → LineRead (split (part text i f)) out after at 0 more next
+        → Reading text start after n goal (e + 1) (k + 1) (count + more) next
+    goes_on d = record {
       records = r.records ++ record_of (split (part text i f));
-      put = put_then r.put (d.put z);
+      put = put_then r.put (d.put refl);
       left =
-          ap (λ (m : ℕ). calls n (k + 1) (count + m) (r.records ++ record_of (split (part text i f))) (lines (drop (e + 1) text))) (d.calls_is z)
-          ∙ go n k count r.records (part text i e) (lines (drop (e + 1) text)) (split (part text i f)) why line-words why-here z
+          ap (λ (m : ℕ). calls n (k + 1) (count + m) (r.records ++ record_of (split (part text i f))) (lines (drop (e + 1) text))) (d.calls_is refl)
+          ∙ go n k count r.records (part text i e) (lines (drop (e + 1) text)) (split (part text i f)) 0 line-words (why-here d.why_is) refl
           ∙ here;
     }
 
 -- ---- the end: the header is put before the records
-
-pub take-over : (m xs : List ℕ) → length xs ≤ length m → take (length xs) (overwrite m 0 xs) ≡ xs
-take-over m [] h = refl
-take-over [] (x ∷ xs) h = absurd (not-suc-le-zero h)
-take-over (y ∷ m) (x ∷ xs) h = ap (λ (l : List ℕ). x ∷ l) (take-over m xs (le_of_suc-le-suc h))
 
 both-taken : (m xs ys : List ℕ) → length xs + length ys ≤ length m → take (length xs + length ys) (overwrite (overwrite m (length xs) ys) 0 xs) ≡ xs ++ ys
 both-taken m [] ys h =

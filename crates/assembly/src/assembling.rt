@@ -1,5 +1,6 @@
 // The lines in turn: first the one that has N, then the calls.
-ghost use Rattle.std.specs.Prelude.{◌≡◌, [], ◌+◌, ◌≤◌, length, drop};
+ghost use Rattle.std.specs.Prelude.{◌≡◌, IfSome, [], ◌+◌, ◌≤◌, length, drop};
+ghost use Rattle.std.specs.Option.{unwrap_or};
 ghost use Rattle.memory.specs.Words.{overwrite};
 ghost use Rattle.script.specs.Lines.{Put};
 ghost use Rattle.text.specs.Text.{lines, split};
@@ -7,37 +8,33 @@ ghost use Rattle.text.specs.Lines.{pages_of};
 ghost use Rattle.assembly.specs.Assembled.{header, calls, begin, assembled};
 ghost use Rattle.assembly.specs.Told.{told, size, script_of};
 
-use crate::Assembled;
 use crate::buffers::script_buffer;
 use crate::calls::{put_word, read_line};
+use crate::{Assembled, Reason, Unassembled};
+use common::HasNumber;
 use script::put;
 use text::numbers::{is_number, number};
 use text::parts::{count_words, line_at, next_word};
 
-// "exactly one word, a number from 16 to 256": N, or 0.
-pub fn pages_of(s: &[u8]) -> u32
-    ensures { result ≡ pages_of (split s.now) }
+// "exactly one word, a number from 16 to 256": N.
+pub fn pages_of(s: &[u8]) -> Option<u32>
+    ensures { (unwrap_or result 0 ≡ pages_of (split s.now)) × IfSome result (λ n. 16 ≤ n) }
 {
-    let p = next_word(s, 0);
-    let a = p.0;
-    let e = p.1;
-    if a == e {
-        return 0;
+    let word = next_word(s, 0)?;
+    if count_words(&s[word.end..]) != 0 {
+        return None;
     }
-    if count_words(&s[e..]) != 0 {
-        return 0;
+    if !is_number(&s[word.start..word.end]) {
+        return None;
     }
-    if !is_number(&s[a..e]) {
-        return 0;
-    }
-    let n = number(&s[a..e]);
+    let n = number(&s[word.start..word.end]);
     if n < 16 {
-        return 0;
+        return None;
     }
     if n > 256 {
-        return 0;
+        return None;
     }
-    n
+    Some(n)
 }
 
 // "N, count of calls, offset 12"
@@ -60,22 +57,21 @@ pub fn read_calls(text: &[u8], first: usize, line: u32, n: u32, out: &mut [u8]) 
     let mut k = line;
     let mut count = 0;
     let mut at = 12;
+    // The next line begins where this one ends: no range has these places.
     while i < text.len() {
-        let p = line_at(text, i);
-        let f = p.0;
-        let e = p.1;
-        let r = read_line(&text[i..f], out, at);
-        let why = r.why;
-        if why != 0 {
-            return Assembled::Unread(k, why);
+        let line = line_at(text, i);
+        match read_line(&text[i..line.read_end], out, at) {
+            Err(why) => return Err(Unassembled::Unread(k, why.number())),
+            Ok(read) => {
+                at = read.next;
+                count += read.calls;
+            }
         }
-        at = r.next;
-        count += r.calls;
         k += 1;
-        i = e + 1;
+        i = line.end + 1;
     }
     put_header(out, n, count);
-    Assembled::Script(at)
+    Ok(at)
 }
 
 // The lines up to the one that has N, and then the calls.
@@ -86,32 +82,26 @@ pub fn read_text(text: &[u8], out: &mut [u8]) -> Assembled
 {
     let mut i = 0;
     let mut k = 1;
+    // As in read_calls.
     while i < text.len() {
-        let p = line_at(text, i);
-        let f = p.0;
-        let e = p.1;
-        if count_words(&text[i..f]) != 0 {
-            let n = pages_of(&text[i..f]);
-            if n == 0 {
-                return Assembled::Unread(k, 1);
-            }
-            return read_calls(text, e + 1, k + 1, n, out);
+        let line = line_at(text, i);
+        if count_words(&text[i..line.read_end]) != 0 {
+            let Some(n) = pages_of(&text[i..line.read_end]) else {
+                return Err(Unassembled::Unread(k, Reason::NoPages.number()));
+            };
+            return read_calls(text, line.end + 1, k + 1, n, out);
         }
         k += 1;
-        i = e + 1;
+        i = line.end + 1;
     }
-    Assembled::Unread(k, 7)
+    Err(Unassembled::Unread(k, Reason::NoLine.number()))
 }
 
-// How many bytes the script has, or 0 where there is none.
+// How many bytes the script has, or 0 where there is none: so says `size`, and so much of a buffer is written.
 pub fn script_length(a: Assembled) -> usize
     ensures { result ≡ size a }
 {
-    match a {
-        Assembled::Script(n) => n,
-        Assembled::Unread(_, _) => 0,
-        Assembled::TooLong => 0,
-    }
+    a.unwrap_or(0)
 }
 
 // The script stands at the start of `out`; where there is none, `out` is as it was.
@@ -121,11 +111,10 @@ pub fn assemble(text: &[u8], out: &mut [u8; 4096]) -> Assembled
         × (size result ≤ length out.new) }
 {
     if text.len() > 65536 {
-        return Assembled::TooLong;
+        return Err(Unassembled::TooLong);
     }
     let mut bytes = script_buffer();
-    let r = read_text(text, &mut bytes);
-    let n = script_length(r);
+    let n = read_text(text, &mut bytes)?;
     put(out, 0, &bytes[..n]);
-    r
+    Ok(n)
 }

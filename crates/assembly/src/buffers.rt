@@ -1,4 +1,4 @@
-// Buffers for a program that assembles.
+// Buffers for a program that assembles: arrays with a length beside them, since fixed memory without a heap can't fail.
 ghost use Rattle.std.specs.Prelude.{◌≡◌, length};
 
 // The longest text, and one byte more: input that is longer still is too long as well.

@@ -1,26 +1,9 @@
-// What a call of the block kernel answers: done, with a word, or the refusal; and the six words of a block that is told.
+// What a call of the block kernel answers: its word where it is done, else the refusal; and the six words of a block that is told.
 #![tactic(auto)]
 
-pub mod packing;
-pub mod replies;
+pub mod refusals;
+pub mod told;
 
-pub use packing::{outcome_of, pack};
-pub use replies::{TOLD_WORDS, Told, reply};
-
-#[derive(Clone, Copy)]
-pub enum Answer {
-    Done(u32),
-    Damaged,
-    Child,
-    Block,
-    Rights,
-    Piece,
-    Apart,
-    Unmerged,
-    Slot,
-    Structure,
-    Enabled,
-    Empty,
-    Root,
-    Length,
-}
+pub use common::{HasNumber, pack};
+pub use refusals::{Answer, Refusal};
+pub use told::{TOLD_WORDS, Told};

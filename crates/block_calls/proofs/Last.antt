@@ -1,17 +1,14 @@
--- The number that is left where a call is none of the others: 11 of those that tell a block, 13 of the rest. Assumes nothing.
+-- The number that is left where a call that tells no block is none of the others. Assumes nothing.
 use mathlib.Core.Path.{◌≡◌, refl, sym}
 use mathlib.Core.Logic.{◌≢◌}
 use mathlib.Core.Bool.{Bool, true, false, ◌||◌, false≢true}
 use Prim.Native.Nat.{ℕ, ◌≤◌}
 use native.Mathlib.Omega.{arith}
 use lib.Dec.{eqb}
-use borrow.Author.Tests.{eqb-true, eqb-false, ne_eqb}
+use borrow.Author.Tests.{eqb-false}
 use Rattle.block_sequences.specs.Numbers.{most, tells_block}
 
 module _ (n : ℕ) where
-  pub is-find : tells_block n ≡ true → n ≢ 10 → n ≡ 11
-  is-find e h = eqb-true n 11 (rw (ne_eqb n 10 h) at e)
-
   neither : (s t : Bool) → s || t ≡ false → (s ≡ false) × (t ≡ false)
   neither true t e = absurd (false≢true (sym e))
   neither false t e = (refl, e)

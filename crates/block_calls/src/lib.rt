@@ -1,5 +1,5 @@
 // The fourteen calls of the block kernel on any lent memory, and the same by their numbers.
-#![tactic(auto)]
+#![tactic(auto, unfolding(block_sequences::specs::Numbers::numbered, block_sequences::specs::Numbers::service_of))]
 
 pub mod calls;
 pub mod numbers;

@@ -11,13 +11,11 @@ use block_answers::{Answer, Told};
 pub fn tells_block(n: u32) -> bool
     ensures { result ≡ tells_block n }
 {
-    if n == 10 {
-        return true;
-    }
-    n == 11
+    n == 10 || n == 11
 }
 
-// The call of number n, with its arguments in a, where it tells no block.
+// The call of number n, with its arguments in a, where it tells no block. The number stays one: sequences and by_number of block_kernel give it so, and an enum
+// between would take a second match.
 pub fn untold(m: &mut [u32], n: u32, a: [u32; 3]) -> Answer
     requires n_bound { n ≤ 13 }
     requires other { tells_block n ≡ false }

@@ -1,6 +1,6 @@
 // cut: "slot of the free number n: address, block's end, rights, 1, 0, 0, its source, block, its next; that next, if any, has n as previous; block's end is
 // address, its next n; answers n".
-ghost use Rattle.std.specs.Prelude.{◌≡◌, ◌≤◌};
+ghost use Rattle.std.specs.Prelude.{◌≡◌};
 ghost use Rattle.block_memory.specs.Partition.{free_number};
 ghost use Rattle.block_soundness.specs.Test.{sound_test};
 ghost use Rattle.block_rules.specs.Call;
@@ -9,9 +9,9 @@ ghost use Rattle.block_rules.specs.Conditions.{bad_cut};
 ghost use Rattle.block_rules.specs.Refusals.{refusal};
 ghost use Rattle.block_rules.specs.Effects.{cut_at};
 ghost use Rattle.block_rules.specs.Calls.{answer, after};
-ghost use Rattle.block_answers.specs.Said.{said};
+ghost use Rattle.block_answers.specs.Said.{refusal_in, said};
 
-use block_answers::{Answer, reply};
+use block_answers::{Answer, Refusal};
 use block_layout::{block_of, current, end, free_number, put_slot, start};
 use block_moves::block_refusal;
 
@@ -19,29 +19,24 @@ use block_moves::block_refusal;
 fn bad_cut(m: &[u32], d: u32, b: u32, x: u32) -> bool
     ensures { result ≡ bad_cut m.now d b x }
 {
-    if (x as u64) < (start(m, d, b) as u64) + 32 {
-        return true;
-    }
-    (end(m, d, b) as u64) < (x as u64) + 32
+    let x = u64::from(x);
+    x < u64::from(start(m, d, b)) + 32 || u64::from(end(m, d, b)) < x + 32
 }
 
 // 1 3 5 8
-fn cut_refusal(m: &[u32], good: bool, b: u32, x: u32) -> u32
+fn cut_refusal(m: &[u32], good: bool, b: u32, x: u32) -> Result<(), Refusal>
     requires { good ≡ sound_test m.now }
-    ensures { (result ≡ refusal m.now (serve (Call.cut b x))) × (result ≤ 13) }
+    ensures { refusal_in result ≡ refusal m.now (serve (Call.cut b x)) }
 {
-    let n = block_refusal(m, good, b);
-    if n != 0 {
-        return n;
-    }
+    block_refusal(m, good, b)?;
     let d = current(m);
     if bad_cut(m, d, b, x) {
-        return 5;
+        return Err(Refusal::Piece);
     }
     if free_number(m, d) == 0 {
-        return 8;
+        return Err(Refusal::Slot);
     }
-    0
+    Ok(())
 }
 
 fn cut_effect(m: &mut [u32], d: u32, b: u32, x: u32) -> u32
@@ -66,11 +61,7 @@ pub fn cut(m: &mut [u32], good: bool, b: u32, x: u32) -> Answer
     requires { good ≡ sound_test m.old }
     ensures { (said result ≡ answer m.old (serve (Call.cut b x))) × (m.new ≡ after m.old (serve (Call.cut b x))) }
 {
-    let n = cut_refusal(m, good, b, x);
-    if n != 0 {
-        return reply(n, 0);
-    }
+    cut_refusal(m, good, b, x)?;
     let d = current(m);
-    let k = cut_effect(m, d, b, x);
-    reply(0, k)
+    Ok(cut_effect(m, d, b, x))
 }

@@ -1,6 +1,6 @@
 // merge: "the lower gets the higher's end and next; that next, if any, has the lower as previous; disables the higher and wipes its slot; answers the lower's
 // number".
-ghost use Rattle.std.specs.Prelude.{◌≡◌, ◌≤◌};
+ghost use Rattle.std.specs.Prelude.{◌≡◌};
 ghost use Rattle.block_soundness.specs.Test.{sound_test};
 ghost use Rattle.block_rules.specs.Call;
 ghost use Rattle.block_rules.specs.Call.{serve};
@@ -8,9 +8,9 @@ ghost use Rattle.block_rules.specs.Conditions;
 ghost use Rattle.block_rules.specs.Refusals.{refusal};
 ghost use Rattle.block_rules.specs.Effects.{merge_two};
 ghost use Rattle.block_rules.specs.Calls.{answer, after};
-ghost use Rattle.block_answers.specs.Said.{said};
+ghost use Rattle.block_answers.specs.Said.{refusal_in, said};
 
-use block_answers::{Answer, reply};
+use block_answers::{Answer, Refusal};
 use block_layout::{block_of, current, next, put_slot};
 use block_moves::{disable, free_slot, not_in_hand};
 
@@ -18,31 +18,25 @@ use block_moves::{disable, free_slot, not_in_hand};
 fn apart(m: &[u32], d: u32, a: u32, b: u32) -> bool
     ensures { result ≡ Conditions.apart m.now d a b }
 {
-    if next(m, d, a) == b {
-        return false;
-    }
-    next(m, d, b) != a
+    next(m, d, a) != b && next(m, d, b) != a
 }
 
 // 1 3 6
-fn merge_refusal(m: &[u32], good: bool, a: u32, b: u32) -> u32
+fn merge_refusal(m: &[u32], good: bool, a: u32, b: u32) -> Result<(), Refusal>
     requires { good ≡ sound_test m.now }
-    ensures { (result ≡ refusal m.now (serve (Call.merge a b))) × (result ≤ 13) }
+    ensures { refusal_in result ≡ refusal m.now (serve (Call.merge a b)) }
 {
     if !good {
-        return 1;
+        return Err(Refusal::Damaged);
     }
     let d = current(m);
-    if not_in_hand(m, d, a) {
-        return 3;
-    }
-    if not_in_hand(m, d, b) {
-        return 3;
+    if not_in_hand(m, d, a) || not_in_hand(m, d, b) {
+        return Err(Refusal::Block);
     }
     if apart(m, d, a, b) {
-        return 6;
+        return Err(Refusal::Apart);
     }
-    0
+    Ok(())
 }
 
 // l is the lower, h the higher.
@@ -61,15 +55,12 @@ pub fn merge(m: &mut [u32], good: bool, a: u32, b: u32) -> Answer
     requires { good ≡ sound_test m.old }
     ensures { (said result ≡ answer m.old (serve (Call.merge a b))) × (m.new ≡ after m.old (serve (Call.merge a b))) }
 {
-    let n = merge_refusal(m, good, a, b);
-    if n != 0 {
-        return reply(n, 0);
-    }
+    merge_refusal(m, good, a, b)?;
     let d = current(m);
     if next(m, d, a) == b {
         merge_effect(m, d, a, b);
-        return reply(0, a);
+        return Ok(a);
     }
     merge_effect(m, d, b, a);
-    reply(0, b)
+    Ok(b)
 }

@@ -1,5 +1,5 @@
 // enable: "on 0 disables block. Else the lowest entry that is 0 becomes block, unless an entry is block already."
-ghost use Rattle.std.specs.Prelude.{◌≡◌, ◌≤◌};
+ghost use Rattle.std.specs.Prelude.{◌≡◌};
 ghost use Rattle.block_soundness.specs.Test.{sound_test};
 ghost use Rattle.block_rules.specs.Call;
 ghost use Rattle.block_rules.specs.Call.{serve};
@@ -7,9 +7,9 @@ ghost use Rattle.block_rules.specs.Conditions.{all_entries};
 ghost use Rattle.block_rules.specs.Refusals.{refusal};
 ghost use Rattle.block_rules.specs.Effects.{enable_in};
 ghost use Rattle.block_rules.specs.Calls.{enabled_at, answer, after};
-ghost use Rattle.block_answers.specs.Said.{said};
+ghost use Rattle.block_answers.specs.Said.{refusal_in, said};
 
-use block_answers::{Answer, reply};
+use block_answers::{Answer, Refusal};
 use block_layout::{current, entry_of, named};
 use block_moves::{disable, not_in_hand, partition_refusal};
 
@@ -17,32 +17,23 @@ use block_moves::{disable, not_in_hand, partition_refusal};
 fn all_entries(m: &[u32], t: u32, b: u32, on: u32) -> bool
     ensures { result ≡ all_entries m.now t b on }
 {
-    if on == 0 {
-        return false;
-    }
-    if entry_of(m, t, b) != 0 {
-        return false;
-    }
-    entry_of(m, t, 0) == 0
+    on != 0 && entry_of(m, t, b) == 0 && entry_of(m, t, 0) == 0
 }
 
 // 1 2 3 10
-fn enable_refusal(m: &[u32], good: bool, p: u32, b: u32, on: u32) -> u32
+fn enable_refusal(m: &[u32], good: bool, p: u32, b: u32, on: u32) -> Result<(), Refusal>
     requires { good ≡ sound_test m.now }
-    ensures { (result ≡ refusal m.now (serve (Call.enable p b on))) × (result ≤ 13) }
+    ensures { refusal_in result ≡ refusal m.now (serve (Call.enable p b on)) }
 {
-    let n = partition_refusal(m, good, p);
-    if n != 0 {
-        return n;
-    }
+    partition_refusal(m, good, p)?;
     let t = named(m, current(m), p);
     if not_in_hand(m, t, b) {
-        return 3;
+        return Err(Refusal::Block);
     }
     if all_entries(m, t, b, on) {
-        return 10;
+        return Err(Refusal::Enabled);
     }
-    0
+    Ok(())
 }
 
 // "Answers the entry that is block now, or 0". t is the partition.
@@ -67,11 +58,7 @@ pub fn enable(m: &mut [u32], good: bool, p: u32, b: u32, on: u32) -> Answer
     ensures { (said result ≡ answer m.old (serve (Call.enable p b on)))
         × (m.new ≡ after m.old (serve (Call.enable p b on))) }
 {
-    let n = enable_refusal(m, good, p, b, on);
-    if n != 0 {
-        return reply(n, 0);
-    }
+    enable_refusal(m, good, p, b, on)?;
     let t = named(m, current(m), p);
-    let e = enable_effect(m, t, b, on);
-    reply(0, e)
+    Ok(enable_effect(m, t, b, on))
 }

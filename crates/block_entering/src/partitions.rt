@@ -1,13 +1,13 @@
 // enter and leave: the current partition changes, word 3 of the header.
-ghost use Rattle.std.specs.Prelude.{◌≡◌, ◌≤◌};
+ghost use Rattle.std.specs.Prelude.{◌≡◌};
 ghost use Rattle.block_soundness.specs.Test.{sound_test};
 ghost use Rattle.block_rules.specs.Call;
 ghost use Rattle.block_rules.specs.Call.{serve};
 ghost use Rattle.block_rules.specs.Refusals.{refusal};
 ghost use Rattle.block_rules.specs.Calls.{answer, after};
-ghost use Rattle.block_answers.specs.Said.{said};
+ghost use Rattle.block_answers.specs.Said.{refusal_in, said};
 
-use block_answers::{Answer, reply};
+use block_answers::{Answer, Refusal};
 use block_layout::{current, is_root, parent, place};
 use block_moves::child_refusal;
 
@@ -16,27 +16,24 @@ pub fn enter(m: &mut [u32], good: bool, c: u32) -> Answer
     requires { good ≡ sound_test m.old }
     ensures { (said result ≡ answer m.old (serve (Call.enter c))) × (m.new ≡ after m.old (serve (Call.enter c))) }
 {
-    let n = child_refusal(m, good, c);
-    if n != 0 {
-        return reply(n, 0);
-    }
+    child_refusal(m, good, c)?;
     let t = place(m, current(m), c);
     common::write(m, 3, t);
-    reply(0, 0)
+    Ok(0)
 }
 
 // 1 12
-fn leave_refusal(m: &[u32], good: bool) -> u32
+fn leave_refusal(m: &[u32], good: bool) -> Result<(), Refusal>
     requires { good ≡ sound_test m.now }
-    ensures { (result ≡ refusal m.now (serve Call.leave)) × (result ≤ 13) }
+    ensures { refusal_in result ≡ refusal m.now (serve Call.leave) }
 {
     if !good {
-        return 1;
+        return Err(Refusal::Damaged);
     }
     if is_root(m, current(m)) {
-        return 12;
+        return Err(Refusal::Root);
     }
-    0
+    Ok(())
 }
 
 // "current is parent"
@@ -44,11 +41,8 @@ pub fn leave(m: &mut [u32], good: bool) -> Answer
     requires { good ≡ sound_test m.old }
     ensures { (said result ≡ answer m.old (serve Call.leave)) × (m.new ≡ after m.old (serve Call.leave)) }
 {
-    let n = leave_refusal(m, good);
-    if n != 0 {
-        return reply(n, 0);
-    }
+    leave_refusal(m, good)?;
     let t = parent(m, current(m));
     common::write(m, 3, t);
-    reply(0, 0)
+    Ok(0)
 }

@@ -16,13 +16,7 @@ fn top(m: &[u32], d: u32) -> bool
     ensures { result
         ≡ (eqb (Partition.parent m.now d) 0 && eqb (Partition.number m.now d) 0 && eqb (Partition.level m.now d) 0) }
 {
-    if parent(m, d) != 0 {
-        return false;
-    }
-    if number(m, d) != 0 {
-        return false;
-    }
-    level(m, d) == 0
+    parent(m, d) == 0 && number(m, d) == 0 && level(m, d) == 0
 }
 
 // "Any other's parent is a partition, whose block of the number in word 1 has use 3 and has d standing in it; and its level is the parent's and 1, and below
@@ -36,57 +30,32 @@ fn below_parent(m: &[u32], d: u32) -> bool
         && ltb (Partition.level m.now d) (table_words (length m.now))) }
 {
     let p = parent(m, d);
-    if !is_partition(m, p) {
-        return false;
-    }
     let n = number(m, d);
-    if used(m, p, n) != 3 {
-        return false;
-    }
-    if place(m, p, n) != d {
-        return false;
-    }
     let l = level(m, d);
-    if (l as u64) != (level(m, p) as u64) + 1 {
-        return false;
-    }
-    (l as usize) < m.len() / 32
+    is_partition(m, p)
+        && used(m, p, n) == 3
+        && place(m, p, n) == d
+        && u64::from(l) == u64::from(level(m, p)) + 1
+        && (l as usize) < m.len() / 32
 }
 
+#[tactic(auto, unfolding(block_soundness::specs::Test::descriptor_test))]
 pub fn descriptor_test(m: &[u32], d: u32) -> bool
     ensures { result ≡ descriptor_test m.now d }
 {
-    if !are_zero(m, d, 3, 5) {
-        return false;
-    }
-    if is_root(m, d) {
-        return top(m, d);
-    }
-    below_parent(m, d)
-}
-
-// Entry f isn't n, or it is entry e.
-fn entry_differs(m: &[u32], d: u32, e: u32, n: u32, f: u32) -> bool
-    ensures { result ≡ (not (eqb n (Partition.entry m.now d f)) || eqb e f) }
-{
-    if n != entry(m, d, f) {
-        return true;
-    }
-    e == f
+    are_zero(m, d, 3, 5)
+        && if is_root(m, d) {
+            top(m, d)
+        } else {
+            below_parent(m, d)
+        }
 }
 
 // Of the entries only e is n.
 fn only_entry(m: &[u32], d: u32, e: u32, n: u32) -> bool
     ensures { result ≡ all (λ f. not (eqb n (Partition.entry m.now d f)) || eqb e f) entry_numbers }
 {
-    let mut f: u32 = 1;
-    while f <= MOST_ENABLED {
-        if !entry_differs(m, d, e, n, f) {
-            return false;
-        }
-        f += 1;
-    }
-    true
+    (1..MOST_ENABLED + 1).all(|f| n != entry(m, d, f) || e == f)
 }
 
 // "Each entry is 0 or the number of a block in d's hand. No number is in two entries."
@@ -97,24 +66,11 @@ fn entry_test(m: &[u32], d: u32, e: u32) -> bool
         && all (λ f. not (eqb (Partition.entry m.now d e) (Partition.entry m.now d f)) || eqb e f) entry_numbers)) }
 {
     let n = entry(m, d, e);
-    if n == 0 {
-        return true;
-    }
-    if used(m, d, n) != 1 {
-        return false;
-    }
-    only_entry(m, d, e, n)
+    n == 0 || used(m, d, n) == 1 && only_entry(m, d, e, n)
 }
 
 pub fn entries_test(m: &[u32], d: u32) -> bool
     ensures { result ≡ entries_test m.now d }
 {
-    let mut e: u32 = 1;
-    while e <= MOST_ENABLED {
-        if !entry_test(m, d, e) {
-            return false;
-        }
-        e += 1;
-    }
-    true
+    (1..MOST_ENABLED + 1).all(|e| entry_test(m, d, e))
 }

@@ -12,35 +12,18 @@ pub fn are_zero(m: &[u32], d: u32, i: usize, n: usize) -> bool
     requires { (i < 1024) × (n < 1024) }
     ensures { result ≡ all (λ j. eqb (word m.now (d + j)) 0) (from n i) }
 {
-    let e = i + n;
-    let mut j = i;
-    while j < e {
-        if read(m, (d as usize) + j) != 0 {
-            return false;
-        }
-        j += 1;
-    }
-    true
+    (i..i + n).all(|j| read(m, (d as usize) + j) == 0)
 }
 
+#[tactic(auto, unfolding(block_soundness::specs::Test::header_test))]
 pub fn header_test(m: &[u32]) -> bool
     ensures { result ≡ header_test m.now }
 {
     let w = m.len();
-    if !permitted(w) {
-        return false;
-    }
-    if (read(m, 0) as usize) != w {
-        return false;
-    }
-    if (read(m, 1) as usize) != root_of(w) {
-        return false;
-    }
-    if (read(m, 2) as usize) != first_byte(w) {
-        return false;
-    }
-    if !is_partition(m, current(m)) {
-        return false;
-    }
-    are_zero(m, 0, 4, 4)
+    permitted(w)
+        && (read(m, 0) as usize) == w
+        && (read(m, 1) as usize) == root_of(w)
+        && (read(m, 2) as usize) == first_byte(w)
+        && is_partition(m, current(m))
+        && are_zero(m, 0, 4, 4)
 }

@@ -1,19 +1,19 @@
 -- A call by its number: what it answers, tells beside and leaves, also where no call has the number. Assumes nothing.
-use Rattle.std.specs.Prelude.{List, cond, ℕ, leb, get_or}
+use Rattle.std.specs.Prelude.{Result, Some, None, List, cond, ℕ, leb, get_or}
+use Rattle.std.specs.Prelude as Code
 use Rattle.std.proofs.Math.Option.{Option, none, some}
 use Rattle.common.specs.Row.{Answer}
 use Rattle.common.specs.Words.{overwrite}
 use Rattle.block_rules.specs.Call.{Call}
 use Rattle.block_rules.specs.Calls.{no_block, answer, told, after}
+use Rattle.block_answers.specs.declared.refusals.Refusal.{Refusal}
 use Rattle.block_answers.specs.Said.{said}
 use Rattle.block_sequences.specs.Numbers.{most, numbered}
-use Rattle.block_kernel.specs.declared.numbers.Called.{Called}
-use Rattle.block_kernel.specs.declared.numbers.Called.TheVariants.{Answered, Unknown}
 
 -- what an answer of the code stands for: a call's answer, or none where no call has the number
-abbrev pub called : Called → Option Answer
-called (Answered a) = some (said a)
-called Unknown = none
+abbrev pub called : Code.Option (Result ℕ Refusal) → Option Answer
+called (Some a) = some (said a)
+called None = none
 
 module _ (m : List ℕ) (n : ℕ) (a : List ℕ) where
   -- the call of number n with arguments a

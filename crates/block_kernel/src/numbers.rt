@@ -5,17 +5,11 @@ ghost use Rattle.block_kernel.specs.Called.{called, called_answer, called_words,
 use block_answers::{Answer, TOLD_WORDS};
 use block_calls::{telling, tells_block, untold};
 
-// What a call by its number answers, or that no call has the number.
-#[derive(Clone, Copy)]
-pub enum Called {
-    Answered(Answer),
-    Unknown,
-}
-
-// The answer, and the six words of the block that is told, or zeros: they stand in a struct, since no enum holds an array.
+// What a call by its number answers, none where no call has the number, and the six words of the block that is told, or zeros. The words are zeros where no
+// call has the number too, as called_words says, so that they stand beside the answer and not in it.
 #[derive(Clone, Copy)]
 pub struct Numbered {
-    pub called: Called,
+    pub called: Option<Answer>,
     pub words: [u32; TOLD_WORDS],
 }
 
@@ -27,22 +21,20 @@ pub fn by_number(m: &mut [u32], n: u32, a: [u32; 3]) -> Numbered
 {
     if n > 13 {
         return Numbered {
-            called: Called::Unknown,
+            called: None,
             words: [0; TOLD_WORDS],
         };
     }
     if tells_block(n) {
         let t = telling(m, n, a);
-        let answer = t.answer;
         let words = t.words;
         return Numbered {
-            called: Called::Answered(answer),
+            called: Some(t.answer),
             words,
         };
     }
-    let answer = untold(m, n, a);
     Numbered {
-        called: Called::Answered(answer),
+        called: Some(untold(m, n, a)),
         words: [0; TOLD_WORDS],
     }
 }

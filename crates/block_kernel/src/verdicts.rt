@@ -4,7 +4,7 @@ ghost use Rattle.common.specs.Row.{reply};
 ghost use Rattle.block_answers.specs.Said.{said};
 ghost use Rattle.block_kernel.specs.Verdict.{verdict};
 
-use block_answers::Answer;
+use block_answers::{Answer, Refusal};
 use block_judge::is_sound;
 
 // Done with word 0 where the memory is sound, else 1 DAMAGED. No word changes.
@@ -12,7 +12,7 @@ pub fn verdict(m: &[u32]) -> Answer
     ensures { said result ≡ reply (verdict m.now) 0 }
 {
     if is_sound(m) {
-        return Answer::Done(0);
+        return Ok(0);
     }
-    Answer::Damaged
+    Err(Refusal::Damaged)
 }

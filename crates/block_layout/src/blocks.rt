@@ -5,7 +5,7 @@ use crate::partitions::structure;
 use crate::slots::slot_in;
 use common::read;
 
-#[derive(Clone, Copy)]
+#[derive(Clone, Copy, Default)]
 pub struct Block {
     pub start: u32,
     pub end: u32,
@@ -19,6 +19,8 @@ pub struct Block {
 }
 
 // The slot of block n in the structure at s, where memory may end in it: each word has its own bound.
+// One function over a closure that reads a word is no plainer: its contract would take a fact of the closure for each of the nine words.
+#[tactic(auto, unfolding(block_memory::specs::Partition::field))]
 fn block_by_words(m: &[u32], s: u32, n: u32) -> Block
     ensures { ReadIn m.now s n result }
 {
@@ -37,6 +39,7 @@ fn block_by_words(m: &[u32], s: u32, n: u32) -> Block
 }
 
 // The slot of block n in the structure at s, by one bound for the nine words.
+#[tactic(auto, unfolding(block_memory::specs::Partition::field))]
 pub fn block_in(m: &[u32], s: u32, n: u32) -> Block
     ensures { ReadIn m.now s n result }
 {
@@ -58,22 +61,13 @@ pub fn block_in(m: &[u32], s: u32, n: u32) -> Block
 }
 
 // Block n of d; nine zeros where d has no such slot.
+#[tactic(auto, unfolding(block_memory::specs::Partition::field))]
 pub fn block_of(m: &[u32], d: u32, n: u32) -> Block
     ensures { ReadAs m.now d n result }
 {
     let s = structure(m, d, n / 8);
     if s == 0 {
-        return Block {
-            start: 0,
-            end: 0,
-            rights: 0,
-            used: 0,
-            child: 0,
-            link: 0,
-            source: 0,
-            previous: 0,
-            next: 0,
-        };
+        return Block::default();
     }
     block_in(m, s, n)
 }

@@ -1,5 +1,6 @@
 // The header, the table and a partition's descriptor.
-ghost use Rattle.std.specs.Prelude.{◌≡◌, eqb};
+ghost use Rattle.std.specs.Prelude.{◌≡◌, cond, ◌&&◌, ◌+◌, ◌≤◌, leb, eqb};
+ghost use Rattle.block_memory.specs.Words.{word};
 ghost use Rattle.block_memory.specs.Partition;
 ghost use Rattle.block_memory.specs.Partition.{root, is_partition};
 
@@ -20,16 +21,11 @@ pub fn is_root(m: &[u32], d: u32) -> bool
 }
 
 // "d is a partition means that 0 < d < W and word 8 + d div 32 is d"
+#[tactic(auto, unfolding(block_memory::specs::Partition::is_partition))]
 pub fn is_partition(m: &[u32], d: u32) -> bool
     ensures { result ≡ is_partition m.now d }
 {
-    if d == 0 {
-        return false;
-    }
-    if (d as usize) >= m.len() {
-        return false;
-    }
-    read(m, 8 + ((d / 32) as usize)) == d
+    0 < d && (d as usize) < m.len() && read(m, 8 + ((d / 32) as usize)) == d
 }
 
 // "0 index of the parent's descriptor"
@@ -53,28 +49,27 @@ pub fn level(m: &[u32], d: u32) -> u32
     read(m, (d as usize) + 2)
 }
 
+// Word FROM + k of a descriptor, for k from 1 to MOST; 0 for any other k.
+fn listed<const FROM: usize, const MOST: u32>(m: &[u32], d: u32, k: u32) -> u32
+    requires { FROM ≤ 15 }
+    ensures { result ≡ cond (leb 1 k && leb k MOST) (word m.now (d + FROM + k)) 0 }
+{
+    if k == 0 || MOST < k {
+        return 0;
+    }
+    read(m, (d as usize) + FROM + (k as usize))
+}
+
 // "7+e, for entry e from 1 to 8, 0 or the number of an enabled block"
 pub fn entry(m: &[u32], d: u32, e: u32) -> u32
     ensures { result ≡ Partition.entry m.now d e }
 {
-    if e == 0 {
-        return 0;
-    }
-    if MOST_ENABLED < e {
-        return 0;
-    }
-    read(m, (d as usize) + 7 + (e as usize))
+    listed::<7, MOST_ENABLED>(m, d, e)
 }
 
 // "15+k, for k from 1 to 16, 0 or the index of structure k"
 pub fn structure(m: &[u32], d: u32, k: u32) -> u32
     ensures { result ≡ Partition.structure m.now d k }
 {
-    if k == 0 {
-        return 0;
-    }
-    if MOST_STRUCTURES < k {
-        return 0;
-    }
-    read(m, (d as usize) + 15 + (k as usize))
+    listed::<15, MOST_STRUCTURES>(m, d, k)
 }

@@ -15,23 +15,16 @@ pub const MOST_STRUCTURES: u32 = 16;
 // "at most 8 blocks enabled for a partition"
 pub const MOST_ENABLED: u32 = 8;
 
-// "numbers run from 8 to 135": the first, and the number after the last
+// "numbers run from 8 to 135", eight in a structure
 pub const FIRST_NUMBER: u32 = 8;
 
-pub const NUMBERS_END: u32 = 136;
-
 // "W = 256K with K from 16 to 64"
+#[tactic(auto, unfolding(block_memory::specs::Geometry::permitted))]
 pub fn permitted(w: usize) -> bool
     ensures { result ≡ Geometry.permitted w }
 {
     let k = w / 256;
-    if k * 256 != w {
-        return false;
-    }
-    if k < 16 {
-        return false;
-    }
-    k <= 64
+    k * 256 == w && 16 <= k && k <= 64
 }
 
 // "index of the root's descriptor, D = 8 + W/32"

@@ -15,6 +15,7 @@ pub fn slot_in(s: u32, n: u32) -> usize
 }
 
 // Word f of the slot of block n.
+#[tactic(auto, unfolding(block_memory::specs::Partition::field))]
 pub fn field(m: &[u32], d: u32, n: u32, f: u32) -> u32
     ensures { result ≡ Partition.field m.now d n f }
 {
@@ -24,6 +25,8 @@ pub fn field(m: &[u32], d: u32, n: u32, f: u32) -> u32
     }
     read(m, slot_in(s, n) + (f as usize))
 }
+
+// The nine words by their names, as the rules have them, each a call of field: a constant in place of the name is no plainer.
 
 // 0 start: "its first byte"
 pub fn start(m: &[u32], d: u32, n: u32) -> u32
@@ -92,7 +95,7 @@ pub fn next(m: &[u32], d: u32, n: u32) -> u32
 pub fn word_from(x: u32) -> u32
     ensures { result ≡ word_from x }
 {
-    (((x as u64) + 3) / 4) as u32
+    x.div_ceil(4)
 }
 
 // The same of block n.
@@ -106,7 +109,7 @@ pub fn place(m: &[u32], d: u32, n: u32) -> u32
 pub fn own(c: u32) -> u32
     ensures { result ≡ cond (eqb c 0) 1 0 }
 {
-    if c == 0 { 1 } else { 0 }
+    u32::from(c == 0)
 }
 
 // "an argument partition is 0 for the caller or a child's number"

@@ -8,6 +8,7 @@ use crate::slots::slot_in;
 use common::{put_words, wipe_words};
 
 // The words ws are written to the slot of block n, from its word f on.
+#[tactic(auto, unfolding(block_memory::specs::Partition::put_slot))]
 pub fn put_slot(m: &mut [u32], d: u32, n: u32, f: u32, ws: &[u32])
     requires { length ws.now ≤ 9 }
     ensures { m.new ≡ put_slot m.old d n f ws.now }

@@ -1,5 +1,5 @@
 // add: "slot of the child's free number n: block's start and end, rights, 1, 0, 0, block, 0, 0; disables block, its words 3 to 5 are 2, child, n; answers n".
-ghost use Rattle.std.specs.Prelude.{◌≡◌, ◌≤◌};
+ghost use Rattle.std.specs.Prelude.{◌≡◌};
 ghost use Rattle.block_memory.specs.Partition;
 ghost use Rattle.block_memory.specs.Partition.{free_number};
 ghost use Rattle.block_soundness.specs.Test.{sound_test};
@@ -9,9 +9,9 @@ ghost use Rattle.block_rules.specs.Conditions.{adds_right};
 ghost use Rattle.block_rules.specs.Refusals.{refusal};
 ghost use Rattle.block_rules.specs.Effects.{add_to};
 ghost use Rattle.block_rules.specs.Calls.{answer, after};
-ghost use Rattle.block_answers.specs.Said.{said};
+ghost use Rattle.block_answers.specs.Said.{refusal_in, said};
 
-use block_answers::{Answer, reply};
+use block_answers::{Answer, Refusal};
 use block_layout::{current, end, free_number, place, put_slot, rights, start};
 use block_moves::{child_refusal, not_in_hand, take_as};
 
@@ -23,25 +23,22 @@ fn adds_right(m: &[u32], d: u32, b: u32, r: u32) -> bool
 }
 
 // 1 2 3 4 8
-fn add_refusal(m: &[u32], good: bool, c: u32, b: u32, r: u32) -> u32
+fn add_refusal(m: &[u32], good: bool, c: u32, b: u32, r: u32) -> Result<(), Refusal>
     requires { good ≡ sound_test m.now }
-    ensures { (result ≡ refusal m.now (serve (Call.add c b r))) × (result ≤ 13) }
+    ensures { refusal_in result ≡ refusal m.now (serve (Call.add c b r)) }
 {
-    let n = child_refusal(m, good, c);
-    if n != 0 {
-        return n;
-    }
+    child_refusal(m, good, c)?;
     let d = current(m);
     if not_in_hand(m, d, b) {
-        return 3;
+        return Err(Refusal::Block);
     }
     if adds_right(m, d, b, r) {
-        return 4;
+        return Err(Refusal::Rights);
     }
     if free_number(m, place(m, d, c)) == 0 {
-        return 8;
+        return Err(Refusal::Slot);
     }
-    0
+    Ok(())
 }
 
 fn add_effect(m: &mut [u32], d: u32, c: u32, b: u32, r: u32) -> u32
@@ -61,11 +58,7 @@ pub fn add(m: &mut [u32], good: bool, c: u32, b: u32, r: u32) -> Answer
     ensures { (said result ≡ answer m.old (serve (Call.add c b r)))
         × (m.new ≡ after m.old (serve (Call.add c b r))) }
 {
-    let n = add_refusal(m, good, c, b, r);
-    if n != 0 {
-        return reply(n, 0);
-    }
+    add_refusal(m, good, c, b, r)?;
     let d = current(m);
-    let k = add_effect(m, d, c, b, r);
-    reply(0, k)
+    Ok(add_effect(m, d, c, b, r))
 }

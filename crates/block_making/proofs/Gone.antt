@@ -2,12 +2,11 @@
 use mathlib.Core.Path.{◌≡◌, refl, sym, ap, ◌∙◌}
 use mathlib.Core.Logic.{◌≢◌, ◌⊎◌}
 use mathlib.Core.List.{List}
-use mathlib.Core.Bool.{Bool, true, false, not, ◌&&◌, ◌||◌}
+use mathlib.Core.Bool.{Bool, true, not, ◌&&◌}
 use Prim.Native.Nat.{ℕ, ◌+◌, ◌*◌, ◌/◌, ◌≤◌, ◌<◌}
 use native.Mathlib.Omega.{arith}
 use lib.Dec.{eqb}
 use lib.ListN.{length}
-use borrow.Author.Tests.{eq-eqb, ne_eqb}
 use Rattle.walk.specs.Lists.{count}
 use Rattle.walk.specs.Reflect.{Tells, both, either, eq?, isn't}
 use Rattle.walk.specs.Finite.{from, in_from, keep, keep_in, image, any?}
@@ -18,7 +17,7 @@ use Rattle.block_memory.specs.Bytes.{HasByte}
 use Rattle.block_memory.specs.Sound.{Sound}
 use Rattle.block_memory.proofs.Lookups.{field-none}
 use Rattle.block_memory.proofs.Loops.{left}
-use Rattle.block_layout.proofs.Finding.{missing, there}
+use Rattle.block_layout.proofs.Finding.{missing}
 use Rattle.block_soundness.proofs.Ranges.{has-range}
 use Rattle.block_soundness.proofs.Blocks.{field-has}
 use Rattle.block_soundness.proofs.Listing.{found, finds}
@@ -29,26 +28,13 @@ use Rattle.block_making.proofs.Marking.{agree, over-image, image-image, keep-kee
 use Rattle.block_making.proofs.Places.{inside?}
 
 module _ (m : List ℕ) (d c : ℕ) where
-  -- block n of d, from its use u and its child x as they were read
-
-  module _ (n : ℕ) {u : ℕ} (read : u ≡ used m d n) where
-    pub no_block : u ≡ 0 → false ≡ of_child m d c n
-    no_block h = sym (missing read _ h)
-
-    pub child-itself : u ≢ 0 → n ≡ c → true ≡ of_child m d c n
-    child-itself h e = sym (there read _ h ∙ ap (λ (b : Bool). b || eqb (child m d n) c) (eq-eqb n c e))
-
-    pub of_child_by : {x : ℕ} → x ≡ child m d n → u ≢ 0 → n ≢ c → eqb x c ≡ of_child m d c n
-    of_child_by e h k =
-        ap (λ (y : ℕ). eqb y c) e ∙ sym (there read _ h ∙ ap (λ (b : Bool). b || eqb (child m d n) c) (ne_eqb n c k))
-
-  -- the numbers of a structure that isn't there name no block of the child
-  pub leap : (n : ℕ) {i : ℕ} → i ≡ structure m d (n / 8) → i ≡ 0 → n < 136 → (w : List ℕ)
-      → over (behind (of_child m d c)) w (left 136 (n / 8 * 8 + 8)) ≡ over (behind (of_child m d c)) w (left 136 n)
-  leap n e h l w =
-      list-skip (of_child m d c) 136 (n / 8 * 8 + 8) (omega arith) w n (omega arith)
+  -- the numbers of a structure that isn't there name no block of the child; structure k was looked up as i
+  pub leap : (k : ℕ) {i : ℕ} → i ≡ structure m d k → i ≡ 0 → k < 17 → (w : List ℕ)
+      → over (behind (of_child m d c)) w (left 136 (8 * (k + 1))) ≡ over (behind (of_child m d c)) w (left 136 (8 * k))
+  leap k e h l w =
+      list-skip (of_child m d c) 136 (8 * (k + 1)) (omega arith) w (8 * k) (omega arith)
       (λ x a b.
-      let same : x / 8 ≡ n / 8 = omega arith in
+      let same : x / 8 ≡ k = omega arith in
       missing {r = used m d x} refl _ (field-none m d x 3 (ap (structure m d) same ∙ sym e ∙ h)))
 
 -- ---- in sound memory a partition goes exactly where it stands in a block that comes back

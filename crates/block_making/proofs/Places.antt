@@ -1,19 +1,17 @@
 -- The partitions that stand in a block, each marked in the place of its table word: a block's own places hold them all. Assumes nothing.
-use mathlib.Core.Path.{◌≡◌, refl, sym, ap, ap₂, ◌∙◌}
+use mathlib.Core.Path.{◌≡◌, refl, sym, ap, ◌∙◌}
 use mathlib.Core.Logic.{◌≢◌}
-use mathlib.Core.List.{List, ◌∷◌}
-use mathlib.Core.Bool.{Bool, true, false, cond, ◌||◌}
+use mathlib.Core.List.{List}
+use mathlib.Core.Bool.{Bool, false, cond}
 use Prim.Native.Nat.{ℕ, zero, suc, ◌+◌, ◌*◌, ◌/◌, ◌≤◌, ◌<◌}
 use native.Mathlib.Nat.{not-suc-le-zero, le_of_suc-le-suc}
-use native.Mathlib.Numerals.{add-one}
 use native.Mathlib.Omega.{arith}
-use native.Mathlib.Decide.{ℕ_discrete, dec_lt}
-use lib.ListN.{length, length-set, get_or, set, take, drop, drop_of_length-le, replicate}
-use lib.Seq.{get_or-set_same, get_or-set_other, drop-cons, ext_get_or}
+use native.Mathlib.Decide.{dec_lt}
+use lib.ListN.{length, get_or, take, drop, drop_of_length-le, replicate}
+use lib.Seq.{ext_get_or}
 use Rattle.walk.specs.Reflect.{Tells, both, eq?, le?, lt?, isn't}
 use Rattle.walk.specs.Finite.{from, image-at, length-image}
 use Rattle.block_memory.specs.Words.{word}
-use Rattle.block_memory.specs.Partition.{start, end}
 use Rattle.block_memory.specs.Sound.{Table}
 use Rattle.block_making.specs.Deleting.{marked, inside, Marks, stands_in, gone}
 use Rattle.block_making.proofs.Marking.{fails}
@@ -22,13 +20,6 @@ use Rattle.block_making.proofs.Turns.{length_from}
 pub inside? : (a e t : ℕ) → Tells (inside a e t) (((t ≢ 0) × (a ≤ 4 * t)) × (4 * t < e))
 unfolding inside
 inside? a e t = both (both (isn't eq?) le?) lt?
-
-module _ (a e t v : ℕ) where
-  pub is-inside : t ≢ 0 → a ≤ 4 * t → 4 * t < e → t ≡ cond (inside a e t) t v
-  is-inside z l u = sym (ap (λ (b : Bool). cond b t v) ((inside? a e t).1 ((z, l), u)))
-
-  pub isn't-inside : ¬ (((t ≢ 0) × (a ≤ 4 * t)) × (4 * t < e)) → v ≡ cond (inside a e t) t v
-  isn't-inside h = sym (ap (λ (b : Bool). cond b t v) (fails _ (λ k. h ((inside? a e t).0 k))))
 
 -- ---- a block's places, from a / 128 on
 
@@ -74,41 +65,11 @@ module _ (m : List ℕ) (a e : ℕ) (before : List ℕ) (table : Table m) (short
     | no h ↦ u.left i (omega arith) ∙ same-mark m a e before i (above m a e table i (omega arith) (past i (omega arith) l))
   ]
 
-pub upto_next : (m : List ℕ) (a e : ℕ) (before out : List ℕ) (j v : ℕ) → Upto m a e before out j → j < length before → v ≡ mark m a e out j
-    → Upto m a e before (set out j v) (j + 1)
-upto_next m a e before out j v u l q = record {
-  size = simp length-set u.size;
-  done = λ i h k. elim (ℕ_discrete i j) [
-    | yes z ↦
-        ap (λ (x : ℕ). get_or (set out j v) x 0) z ∙ get_or-set_same out j v 0 (omega (arith, u.size)) ∙ q
-        ∙ ap (λ (x : ℕ). cond (inside a e (word m (8 + j))) (word m (8 + j)) x) (u.left j (omega arith)) ∙ ap (mark m a e before) (sym z)
-    | no z ↦ get_or-set_other out j i v 0 z ∙ u.done i (omega arith) k
-  ];
-  left = λ i h. get_or-set_other out j i v 0 (λ z. omega arith) ∙ u.left i (omega arith);
-}
-
 -- ---- all blocks of a list, one after the other
 
 -- the partition of table word j is marked if one of the blocks from place i on has it
 abbrev pub still : List ℕ → ℕ → List ℕ → ℕ → ℕ → ℕ → ℕ
 still m d ns i j v = cond (stands_in m d (drop i ns) (word m (8 + j))) (word m (8 + j)) v
-
-either-mark : (x y : Bool) (t v : ℕ) → cond y t (cond x t v) ≡ cond (x || y) t v
-either-mark true true t v = refl
-either-mark true false t v = refl
-either-mark false y t v = refl
-
--- block n of the list starts at a and ends at e
-pub still-next : (m : List ℕ) (d : ℕ) (ns before out : List ℕ) (i : ℕ) {a e n : ℕ} → i < length ns → n ≡ get_or ns i 0 → a ≡ start m d n → e ≡ end m d n
-    → Marks m a e before out → (j : ℕ) → j < length before → still m d ns (i + 1) j (get_or out j 0) ≡ still m d ns i j (get_or before j 0)
-still-next m d ns before out i {a} {e} {n} l q f g h j k =
-    let t = word m (8 + j) in
-    let x : ℕ → Bool = λ b. inside (start m d b) (end m d b) t in
-    let same : inside a e t ≡ x (get_or ns i 0) = ap₂ (λ (y z : ℕ). inside y z t) f g ∙ ap x q in
-    ap (still m d ns (i + 1) j) (h j k ∙ ap (λ (b : Bool). cond b t (get_or before j 0)) same)
-    ∙ either-mark (x (get_or ns i 0)) (stands_in m d (drop (i + 1) ns) t) t (get_or before j 0)
-    ∙ ap (λ (xs : List ℕ). cond (stands_in m d xs t) t (get_or before j 0))
-    (ap (λ (y : ℕ). get_or ns i 0 ∷ drop y ns) (add-one i) ∙ sym (drop-cons ns i 0 l))
 
 pub still-none : (m : List ℕ) (d : ℕ) (ns : List ℕ) (i j v : ℕ) → length ns ≤ i → v ≡ still m d ns i j v
 still-none m d ns i j v l = sym (ap (λ (xs : List ℕ). cond (stands_in m d xs (word m (8 + j))) (word m (8 + j)) v) (drop_of_length-le ns l))

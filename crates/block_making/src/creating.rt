@@ -1,5 +1,5 @@
 // create: "takes it as (3, 0, 0); descriptor words 0 to 2 are the caller, block, the caller's level + 1; enters it in the table".
-ghost use Rattle.std.specs.Prelude.{◌≡◌, ◌≤◌, ◌<◌};
+ghost use Rattle.std.specs.Prelude.{◌≡◌, ◌<◌};
 ghost use Rattle.block_memory.specs.Partition;
 ghost use Rattle.block_soundness.specs.Test.{sound_test};
 ghost use Rattle.block_rules.specs.Call;
@@ -7,28 +7,26 @@ ghost use Rattle.block_rules.specs.Call.{serve};
 ghost use Rattle.block_rules.specs.Refusals.{refusal};
 ghost use Rattle.block_rules.specs.Effects.{create_in};
 ghost use Rattle.block_rules.specs.Calls.{answer, after};
-ghost use Rattle.block_answers.specs.Said.{said};
+ghost use Rattle.block_answers.specs.Said.{refusal_in, said};
 
-use block_answers::{Answer, reply};
+use block_answers::{Answer, Refusal};
 use block_layout::{DESCRIPTOR_WORDS, current, level, place};
 use block_moves::{block_refusal, no_room, take_as};
 
 // 1 3 9
-fn create_refusal(m: &[u32], good: bool, b: u32) -> u32
+fn create_refusal(m: &[u32], good: bool, b: u32) -> Result<(), Refusal>
     requires { good ≡ sound_test m.now }
-    ensures { (result ≡ refusal m.now (serve (Call.create b))) × (result ≤ 13) }
+    ensures { refusal_in result ≡ refusal m.now (serve (Call.create b)) }
 {
-    let n = block_refusal(m, good, b);
-    if n != 0 {
-        return n;
-    }
+    block_refusal(m, good, b)?;
     if no_room(m, current(m), b, DESCRIPTOR_WORDS) {
-        return 9;
+        return Err(Refusal::Structure);
     }
-    0
+    Ok(())
 }
 
 // In sound memory a level is below the number of table words, so that its sum with 1 fits.
+#[tactic(auto, unfolding(block_rules::specs::Effects::create_in))]
 fn create_effect(m: &mut [u32], d: u32, b: u32)
     requires { Partition.level m.old d < 4294967295 }
     ensures { m.new ≡ create_in m.old d b }
@@ -47,11 +45,8 @@ pub fn create(m: &mut [u32], good: bool, b: u32) -> Answer
     requires { good ≡ sound_test m.old }
     ensures { (said result ≡ answer m.old (serve (Call.create b))) × (m.new ≡ after m.old (serve (Call.create b))) }
 {
-    let n = create_refusal(m, good, b);
-    if n != 0 {
-        return reply(n, 0);
-    }
+    create_refusal(m, good, b)?;
     let d = current(m);
     create_effect(m, d, b);
-    reply(0, 0)
+    Ok(0)
 }

@@ -14,58 +14,47 @@ ghost use Rattle.block_answers.specs.Said.{said};
 ghost use Rattle.block_making.specs.Deleting.{passing, inside, Marks, gone};
 
 use crate::wiping::wipe_partition;
-use block_answers::{Answer, reply};
-use block_layout::{FIRST_NUMBER, NUMBERS_END, child, current, end, start, structure, used};
+use block_answers::Answer;
+use block_layout::{MOST_STRUCTURES, child, current, end, start, structure, used};
 use block_moves::{child_refusal, give_back};
 
 // Block n of d: the child c stands in it, or it is lent to c or holds a structure of c.
+#[tactic(auto, unfolding(block_rules::specs::Effects::of_child))]
 fn of_child(m: &[u32], d: u32, c: u32, n: u32) -> bool
     ensures { result ≡ of_child m.now d c n }
 {
-    if used(m, d, n) == 0 {
-        return false;
-    }
-    if n == c {
-        return true;
-    }
-    child(m, d, n) == c
+    used(m, d, n) != 0 && (n == c || child(m, d, n) == c)
 }
 
-// The numbers of the blocks of d that come back, in order, at the start of out, and how many. It passes over the structures that aren't there.
-fn find_back(m: &[u32], d: u32, c: u32, out: &mut [u32]) -> usize
-    requires { length out.old ≡ 128 }
-    ensures { (take result out.new ≡ keep (of_child m.now d c) numbers) × (result ≤ 128) }
+// The numbers of the blocks of d that come back, in order, written at the start of out. It passes over the structures that aren't there.
+fn find_back<'a>(m: &[u32], d: u32, c: u32, out: &'a mut [u32; 128]) -> &'a [u32]
+    ensures { result.now ≡ keep (of_child m.now d c) numbers }
 {
     let mut r = 0;
-    let mut n = FIRST_NUMBER;
-    while n < NUMBERS_END {
-        if structure(m, d, n / 8) == 0 {
-            n = n / 8 * 8 + 8;
-        } else {
-            if of_child(m, d, c, n) {
-                out[r] = n;
-                r += 1;
-                n += 1;
-            } else {
-                n += 1;
+    for k in 1..=MOST_STRUCTURES {
+        if structure(m, d, k) != 0 {
+            for n in 8 * k..8 * k + 8 {
+                if of_child(m, d, c, n) {
+                    out[r] = n;
+                    r += 1;
+                }
             }
         }
     }
-    r
+    &out[..r]
 }
 
 // The partition t if it stands in the bytes from start up to end, else what was there before.
+#[tactic(auto, unfolding(crate::specs::Deleting::inside))]
 fn mark(t: u32, start: u32, end: u32, before: u32) -> u32
     ensures { result ≡ cond (inside start end t) t before }
 {
-    if t == 0 {
-        return before;
+    let x = 4 * u64::from(t);
+    if t != 0 && u64::from(start) <= x && x < u64::from(end) {
+        t
+    } else {
+        before
     }
-    let x = 4 * (t as u64);
-    if x < (start as u64) {
-        return before;
-    }
-    if x < (end as u64) { t } else { before }
 }
 
 // Into its place of out each partition that stands in the bytes from start up to end. A table word has its place by the 128 bytes that its partition
@@ -74,11 +63,9 @@ fn mark_block(m: &[u32], start: u32, end: u32, out: &mut [u32])
     requires { Table m.now × (length out.old ≤ length m.now / 32) }
     ensures { Marks m.now start end out.old out.new }
 {
-    let e = common::least(((end as usize) + 127) / 128, out.len());
-    let mut j = (start / 128) as usize;
-    while j < e {
+    let e = (end as usize).div_ceil(128).min(out.len());
+    for j in (start / 128) as usize..e {
         out[j] = mark(common::read(m, 8 + j), start, end, out[j]);
-        j += 1;
     }
 }
 
@@ -88,31 +75,19 @@ fn find_gone(m: &[u32], d: u32, ns: &[u32], out: &mut [u32])
     requires { Table m.now × (length out.old ≤ length m.now / 32) × ((j : ℕ) → get_or out.old j 0 ≡ 0) }
     ensures { out.new ≡ gone m.now d ns.now (length out.old) }
 {
-    let mut i = 0;
-    while i < ns.len() {
-        let n = ns[i];
-        mark_block(m, start(m, d, n), end(m, d, n), out);
-        i += 1;
+    for n in ns {
+        mark_block(m, start(m, d, *n), end(m, d, *n), out);
     }
-}
-
-fn wipe_unless_0(m: &mut [u32], t: u32)
-    ensures { m.new ≡ passing wipe_partition m.old t }
-{
-    if t == 0 {
-        return;
-    }
-    wipe_partition(m, t);
 }
 
 // Each partition of ts but 0 is wiped.
 fn wipe_gone(m: &mut [u32], ts: &[u32])
     ensures { m.new ≡ over (passing wipe_partition) m.old ts.now }
 {
-    let mut j = 0;
-    while j < ts.len() {
-        wipe_unless_0(m, ts[j]);
-        j += 1;
+    for t in ts {
+        if *t != 0 {
+            wipe_partition(m, *t);
+        }
     }
 }
 
@@ -120,25 +95,23 @@ fn wipe_gone(m: &mut [u32], ts: &[u32])
 fn give_all_back(m: &mut [u32], d: u32, ns: &[u32])
     ensures { m.new ≡ over (λ w n. give_back w d n) m.old ns.now }
 {
-    let mut i = 0;
-    while i < ns.len() {
-        give_back(m, d, ns[i]);
-        i += 1;
+    for n in ns {
+        give_back(m, d, *n);
     }
 }
 
 // gone has a place for each word of the table, each 0, and back one for each number: who goes and what comes back is written there.
-fn delete_with(m: &mut [u32], d: u32, c: u32, gone: &mut [u32], back: &mut [u32])
-    requires { Sound m.old × Partition m.old d × (length gone.old ≡ length m.old / 32) × ((j : ℕ) → get_or gone.old j 0 ≡ 0) × (length back.old ≡ 128) }
+fn delete_with(m: &mut [u32], d: u32, c: u32, gone: &mut [u32], back: &mut [u32; 128])
+    requires { Sound m.old × Partition m.old d × (length gone.old ≡ length m.old / 32) × ((j : ℕ) → get_or gone.old j 0 ≡ 0) }
     ensures { m.new ≡ delete_child m.old d c }
 {
-    let r = find_back(m, d, c, back);
-    find_gone(m, d, &back[0..r], gone);
+    let ns = find_back(m, d, c, back);
+    find_gone(m, d, ns, gone);
     wipe_gone(m, gone);
-    give_all_back(m, d, &back[0..r]);
+    give_all_back(m, d, ns);
 }
 
-// The table of a sound memory has 512 words at most.
+// The table of a sound memory has 512 words at most, and a pool 128 numbers. Both lists are fixed memory, so that delete cannot fail.
 fn delete_effect(m: &mut [u32], d: u32, c: u32)
     requires { Sound m.old × Partition m.old d }
     ensures { m.new ≡ delete_child m.old d c }
@@ -154,11 +127,8 @@ pub fn delete(m: &mut [u32], good: bool, c: u32) -> Answer
     requires { good ≡ sound_test m.old }
     ensures { (said result ≡ answer m.old (serve (Call.delete c))) × (m.new ≡ after m.old (serve (Call.delete c))) }
 {
-    let n = child_refusal(m, good, c);
-    if n != 0 {
-        return reply(n, 0);
-    }
+    child_refusal(m, good, c)?;
     let d = current(m);
     delete_effect(m, d, c);
-    reply(0, 0)
+    Ok(0)
 }

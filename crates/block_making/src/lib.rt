@@ -1,5 +1,5 @@
 // create and delete: a partition is made in a block of the caller, and goes with all that is below it.
-#![tactic(auto)]
+#![tactic(auto, unfolding(common::specs::Row::first, common::specs::Row::reply, common::specs::Row::pass, block_rules::specs::Refusals::refusals, block_rules::specs::Refusals::refusals_of, block_rules::specs::Effects::effect, block_rules::specs::Effects::effect_of, block_rules::specs::Calls::result, block_rules::specs::Calls::result_of, block_rules::specs::Calls::answer, block_rules::specs::Calls::after))]
 
 pub mod creating;
 pub mod deleting;

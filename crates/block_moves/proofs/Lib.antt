@@ -1,4 +1,1 @@
 pub mod Disabling
-pub mod Refused
-pub mod Whole
-pub mod Told

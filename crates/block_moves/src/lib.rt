@@ -1,5 +1,5 @@
 // What several calls do and ask: blocks disabled, taken, given back and freed, and the conditions of refusals.
-#![tactic(auto)]
+#![tactic(auto, unfolding(common::specs::Row::first))]
 
 pub mod changes;
 pub mod conditions;

@@ -4,19 +4,23 @@
 // the verdict of the memory.
 #![tactic(auto)]
 
-mod sequences;
-
-use sequences::run_memory;
+use block_answers::pack;
+use block_kernel::verdict;
 use std::io;
+use std::io::Write;
+use stdio::{print_verdict, run_memories};
 
-// At most 256 memories.
+fn print_end<W: Write>(output: &mut W, m: &[u32]) -> io::Result<()> {
+    print_verdict(output, pack(verdict(m)))
+}
+
+// Memories of at most 16,640 words: the most that is permitted, and 1 KiB.
 fn main(rt: HostRuntime) -> io::Result<()> {
     let mut input = rt.reader();
     let mut output = io::writer(&rt);
-    for _k in 0u32..256 {
-        if run_memory(&mut input, &mut output)? == 0 {
-            return Ok(());
-        }
-    }
-    Ok(())
+    let mut room = [0u32; 16640];
+    let run = |m: &mut [u32], calls: &[u32], answers: &mut [u64]| block_kernel::run(
+        m, calls, answers,
+    );
+    run_memories(&mut input, &mut output, &mut room, run, print_end)
 }

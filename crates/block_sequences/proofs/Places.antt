@@ -46,16 +46,6 @@ number-places n a = pick (eqb n 10) (eqb n 11) refl refl
     pick false true e f = rw (eqb-true n 11 f) refl
     pick false false e f = format_or (eqb n 0) (service_of n a) (service_places n a e f)
 
--- ---- every answer takes a place
-
-some-place : (o : Option (ℕ × ℕ)) → 1 ≤ places_by o
-some-place none = omega arith
-some-place (some b) = omega arith
-
-pub has-place : (c : Call) → 1 ≤ places c
-has-place format_all = omega arith
-has-place (serve s) = some-place (tells [] 0 s)
-
 -- ---- by the words that are told beside: whether a block is told goes neither by the memory nor by the caller
 
 tells_alike : (m : List ℕ) (d : ℕ) (s : Service) → places_by (tells m d s) ≡ places_by (tells [] 0 s)

@@ -1,5 +1,5 @@
 // The open calls: document 01's by its numbers, then document 02's. Each but format judges the memory first, and is then the call of that name at the
-// width of the edition that the header names.
+// width of the edition that the header names. They are one function each: docs name their contracts, and C has a function for each.
 ghost use Rattle.std.specs.Prelude.{◌≡◌};
 ghost use Rattle.rules.specs.Call;
 ghost use Rattle.rules.specs.Editions.{answer, after, context};

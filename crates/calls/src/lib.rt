@@ -1,5 +1,5 @@
 // The sixteen open calls on any lent memory, and document 01's by their numbers.
-#![tactic(auto)]
+#![tactic(auto, unfolding(rules::specs::Editions::answer, rules::specs::Editions::after, rules::specs::Editions::context, rules::specs::Replay::call_of, crate::specs::Numbers::numbered,))]
 
 mod calls;
 mod numbers;

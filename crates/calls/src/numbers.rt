@@ -7,16 +7,13 @@ ghost use Rattle.calls.specs.Numbers.{numbered};
 use crate::calls;
 use answers::Answer;
 
-// The call of number n, with its arguments in a.
+// The call of number n, with its arguments in a. The numbers are no enum: they are document 01's, words by which C and a sequence name a call (`numbered`).
 pub fn numbered_call(m: &mut [u32], n: u32, a: [u32; 5]) -> Answer
     requires { n ≤ 12 }
     ensures { (said result ≡ answer m.old (numbered n (λ j. get_or a j 0)))
         × (m.new ≡ after m.old (numbered n (λ j. get_or a j 0))) }
 {
-    let first = a[0];
-    let second = a[1];
-    let third = a[2];
-    let fourth = a[3];
+    let [first, second, third, fourth, _] = a;
     match n {
         0 => calls::format(m, first),
         1 => calls::create_partition(m, a),

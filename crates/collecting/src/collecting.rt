@@ -1,5 +1,5 @@
 // collect: "drops the three, later list pairs move down in order, returns the pages chained again; answers the first".
-ghost use Rattle.std.specs.Prelude.{◌≡◌, not, [], ◌∷◌, ◌≤◌, eqb};
+ghost use Rattle.std.specs.Prelude.{◌≡◌, not, [], ◌∷◌, eqb};
 ghost use Rattle.walk.specs.Finite.{any};
 ghost use Rattle.memory.specs.Words.{put};
 ghost use Rattle.soundness.specs.Test.{sound_test};
@@ -9,59 +9,46 @@ ghost use Rattle.rules.specs.Conditions.{child, any_mapping};
 ghost use Rattle.rules.specs.Refusals.{refusal};
 ghost use Rattle.rules.specs.Effects.{effect};
 ghost use Rattle.rules.specs.Calls.{result as result_of, answer, after};
-ghost use Rattle.pages.specs.Width.{Width};
-ghost use Rattle.answers.specs.Said.{said};
+ghost use Rattle.answers.specs.Said.{refusal_in, said};
 ghost use Rattle.threes.specs.Standing.{Standing};
 
-use answers::Answer;
-use pages::PhysicalPage;
+use answers::{Answer, Refusal};
+use pages::{IndexWidth, PhysicalPage};
 use threes::lists::{drop_listed, three_place};
 
 // Whether a word of the part s is not 0.
 fn any_word(s: &[u32]) -> bool
     ensures { result ≡ any (λ w. not (eqb w 0)) s.now }
 {
-    let mut i = 0;
-    while i < s.len() {
-        if s[i] != 0 {
-            return true;
-        }
-        i += 1;
-    }
-    false
+    s.iter().any(|w| *w != 0)
 }
 
 // 12: "page table has a mapping", of the child k and the target t.
-fn any_mapping(b: u32, m: &[u32], k: PhysicalPage, t: u32) -> bool
-    requires { Width b }
-    ensures { result ≡ any_mapping b m.now k.0 t }
+fn any_mapping(b: IndexWidth, m: &[u32], k: PhysicalPage, t: u32) -> bool
+    ensures { result ≡ any_mapping b.bits m.now k.0 t }
 {
     any_word(pages::words_of(b, m, pages::page_of(b, pages::table_for(b, m, k, t))))
 }
 
 // 1 3 5 8 12
-fn collect_refusal(b: u32, m: &[u32], good: bool, c: u32, t: u32) -> u32
-    requires width { Width b }
-    requires judged { good ≡ sound_test b m.now }
-    ensures { (result ≡ refusal b m.now (Call.collect c t)) × (result ≤ 16) }
+fn collect_refusal(b: IndexWidth, m: &[u32], good: bool, c: u32, t: u32) -> Result<(), Refusal>
+    requires judged { good ≡ sound_test b.bits m.now }
+    ensures { refusal_in result ≡ refusal b.bits m.now (Call.collect c t) }
 {
-    let n = moves::child_refusal(b, m, good, &[c, t], c);
-    if n != 0 {
-        return n;
-    }
+    moves::child_refusal(b, m, good, &[c, t], c)?;
     let k = moves::child_of(b, m, c);
     if moves::no_three(b, m, k, t) {
-        return 8;
+        return Err(Refusal::Table);
     }
     if any_mapping(b, m, k, t) {
-        return 12;
+        return Err(Refusal::FullTable);
     }
-    0
+    Ok(())
 }
 
 // The pages at v, x and y of the partition d are returned, and linked in that order: first is the page at v, second that at x.
 fn return_chained(
-    b: u32,
+    b: IndexWidth,
     m: &mut [u32],
     d: PhysicalPage,
     v: u32,
@@ -70,8 +57,7 @@ fn return_chained(
     first: PhysicalPage,
     second: PhysicalPage,
 )
-    requires { Width b }
-    ensures { m.new ≡ put b (put b (return_all b m.old d.0 (v ∷ x ∷ y ∷ [])) first.0 0 x) second.0 0 y }
+    ensures { m.new ≡ put b.bits (put b.bits (return_all b.bits m.old d.0 (v ∷ x ∷ y ∷ [])) first.0 0 x) second.0 0 y }
 {
     moves::return_all(b, m, d, &[v, x, y]);
     pages::write_word(b, m, first, 0, x);
@@ -79,10 +65,9 @@ fn return_chained(
 }
 
 // What is needed of the list and of the caller's tables is read before anything changes. The answer is the address of the first page.
-fn collect_effect(b: u32, m: &mut [u32], c: u32, t: u32) -> u32
-    requires width { Width b }
-    requires stands { Standing b m.old (child b m.old c) t }
-    ensures { (result ≡ result_of b m.old (Call.collect c t)) × (m.new ≡ effect b m.old (Call.collect c t)) }
+fn collect_effect(b: IndexWidth, m: &mut [u32], c: u32, t: u32) -> u32
+    requires stands { Standing b.bits m.old (child b.bits m.old c) t }
+    ensures { (result ≡ result_of b.bits m.old (Call.collect c t)) × (m.new ≡ effect b.bits m.old (Call.collect c t)) }
 {
     let d = pages::current(b, m);
     let k = moves::child_of(b, m, c);
@@ -99,15 +84,10 @@ fn collect_effect(b: u32, m: &mut [u32], c: u32, t: u32) -> u32
 }
 
 // 7. The child stands at c of the caller, and t is an address of its own.
-pub fn collect(b: u32, m: &mut [u32], good: bool, c: u32, t: u32) -> Answer
-    requires width { Width b }
-    requires judged { good ≡ sound_test b m.old }
-    ensures { (said result ≡ answer b m.old (Call.collect c t)) × (m.new ≡ after b m.old (Call.collect c t)) }
+pub fn collect(b: IndexWidth, m: &mut [u32], good: bool, c: u32, t: u32) -> Answer
+    requires judged { good ≡ sound_test b.bits m.old }
+    ensures { (said result ≡ answer b.bits m.old (Call.collect c t)) × (m.new ≡ after b.bits m.old (Call.collect c t)) }
 {
-    let n = collect_refusal(b, m, good, c, t);
-    if n != 0 {
-        return answers::reply(n, 0);
-    }
-    let v = collect_effect(b, m, c, t);
-    answers::reply(0, v)
+    collect_refusal(b, m, good, c, t)?;
+    Ok(collect_effect(b, m, c, t))
 }

@@ -1,11 +1,11 @@
 -- The calls that are left from word i on, as many as there is room for. Assumes nothing.
 use mathlib.Core.Path.{◌≡◌, refl}
 use mathlib.Core.Logic.{◌≢◌}
-use mathlib.Core.Bool.{Bool, true, false, cond, ◌&&◌, and-false}
+use mathlib.Core.Bool.{Bool, true, false, cond, ◌&&◌}
 use mathlib.Core.List.{List, [], ◌∷◌}
 use Prim.Native.Nat.{ℕ, zero, suc, ◌-◌, ◌≤◌, ◌<◌}
 use native.Mathlib.Omega.{arith}
-use borrow.Author.Tests.{le-leb, lt-leb, leb-true}
+use borrow.Author.Tests.{leb-true}
 use lib.Dec.{leb}
 use lib.ListN.{length}
 use Rattle.common.specs.Sequence.{call_at, end_at, whole, calls_from}
@@ -30,19 +30,6 @@ module _ {C : Type 0} (counts : List ℕ) (most : ℕ) (numbered : ℕ → (ℕ 
   -- its answer fits
   abbrev room : Bool
   room = leb (places here) r
-
-  -- ---- the end that is to be found
-
-  pub not-next : stands ≡ false → 0 ≡ next
-  not-next e = rw e refl
-
-  -- k places are what the answer takes
-  module _ {k : ℕ} (f : places here ≡ k) where
-    pub no_room : r < k → 0 ≡ next
-    no_room l = rw (f, lt-leb k r l, and-false stands) refl
-
-    pub is-next : stands ≡ true → k ≤ r → end ≡ next
-    is-next w l = rw (f, w, le-leb k r l) refl
 
   -- ---- what an end that was found gives
 

@@ -6,7 +6,6 @@ use Prim.Native.Nat.{ℕ, zero, suc, min, ◌+◌, ◌-◌, ◌≤◌, ◌<◌}
 use native.Mathlib.Nat.{zero-add, suc-add, le_of_suc-le-suc, not-suc-le-zero}
 use native.Mathlib.Decide.{dec_le}
 use native.Mathlib.Omega.{arith}
-use native.Mathlib.Numerals.{add-one}
 use lib.ListN.{length, get_or, set, take, drop, replicate, take-append-drop}
 use Rattle.common.specs.Words.{overwrite}
 
@@ -84,25 +83,11 @@ zeros [] n h = refl
 zeros (x ∷ xs) zero h = absurd (not-suc-le-zero h)
 zeros (x ∷ xs) (suc n) h = ap (λ (l : List ℕ). 0 ∷ l) (zeros xs n (le_of_suc-le-suc h))
 
--- a loop that copies words, turn by turn
-pub copy_none : (s ws : List ℕ) → s ≡ overwrite s 0 (take 0 ws)
-copy_none [] ws = refl
-copy_none (x ∷ xs) ws = refl
-
-copy_suc : (s : List ℕ) (i : ℕ) (ws : List ℕ) → i < length s → i < length ws → set (overwrite s 0 (take i ws)) i (get_or ws i 0) ≡ overwrite s 0 (take (suc i) ws)
-copy_suc [] i ws h k = absurd (not-suc-le-zero h)
-copy_suc (x ∷ xs) i [] h k = absurd (not-suc-le-zero k)
-copy_suc (x ∷ []) zero (w ∷ ws) h k = refl
-copy_suc (x ∷ y ∷ xs) zero (w ∷ ws) h k = refl
-copy_suc (x ∷ xs) (suc i) (w ∷ ws) h k = ap (λ (l : List ℕ). w ∷ l) (copy_suc xs i ws (le_of_suc-le-suc h) (le_of_suc-le-suc k))
-
-pub copy_more : (s t : List ℕ) (i : ℕ) (ws : List ℕ) → i < length s → i < length ws → t ≡ overwrite s 0 (take i ws)
-    → set t i (get_or ws i 0) ≡ overwrite s 0 (take (i + 1) ws)
-copy_more s t i ws h k e = ap (λ (l : List ℕ). set l i (get_or ws i 0)) e ∙ rw (add-one i) (copy_suc s i ws h k)
-
-pub copy_all : (s : List ℕ) (i : ℕ) (ws : List ℕ) → min (length s) (length ws) ≤ i → overwrite s 0 (take i ws) ≡ overwrite s 0 ws
-copy_all [] i ws h = refl
-copy_all (x ∷ xs) zero [] h = refl
-copy_all (x ∷ xs) zero (w ∷ ws) h = absurd (not-suc-le-zero {n = min (length xs) (length ws)} (omega arith))
-copy_all (x ∷ xs) (suc i) [] h = refl
-copy_all (x ∷ xs) (suc i) (w ∷ ws) h = ap (λ (l : List ℕ). w ∷ l) (copy_all xs i ws (omega arith))
+-- the first words, as many as fit
+pub copied : (s ws : List ℕ) (n : ℕ) → n ≡ min (length s) (length ws) → take n ws ++ drop n s ≡ overwrite s 0 ws
+copied [] ws zero e = refl
+copied [] ws (suc n) e = absurd (omega (arith, e))
+copied (x ∷ xs) [] zero e = refl
+copied (x ∷ xs) [] (suc n) e = absurd (omega (arith, e))
+copied (x ∷ xs) (w ∷ ws) zero e = absurd (omega (arith, e))
+copied (x ∷ xs) (w ∷ ws) (suc n) e = ap (λ (l : List ℕ). w ∷ l) (copied xs ws n (omega (arith, e)))

@@ -6,6 +6,7 @@ use Prim.Native.Nat.{ℕ, zero, suc, ◌+◌, ◌-◌, ◌≤◌, ◌<◌}
 use native.Mathlib.Nat.{sub-zero}
 use native.Mathlib.Omega.{arith}
 use lib.ListN.{length}
+use Rattle.std.specs.List.{fold}
 use Rattle.common.specs.Words.{overwrite}
 use Rattle.common.specs.Sequence.{call_at, calls_from}
 use Rattle.common.specs.Room.{replies, fitting, next_at, executed}
@@ -13,7 +14,7 @@ use Rattle.common.proofs.Writing.{overwrite-none, overwrite-both}
 use Rattle.common.proofs.Fitting.{no_more, end-above, end-within, one_more}
 
 module _ {C : Type 0} (counts : List ℕ) (most : ℕ) (numbered : ℕ → (ℕ → ℕ) → C) (places : C → ℕ) where
-  module _ (after : List ℕ → C → List ℕ) (reply_of : List ℕ → C → List ℕ) (run : List ℕ → List C → List ℕ) (ws m₀ out₀ : List ℕ) where
+  module _ (after : List ℕ → C → List ℕ) (reply_of : List ℕ → C → List ℕ) (ws m₀ out₀ : List ℕ) where
     -- the calls from word i on, at most k, whose answers fit from place p on
     abbrev left : ℕ → ℕ → ℕ → List C
     left k p i = fitting places (length out₀ - p) (calls_from counts most numbered k ws i)
@@ -27,7 +28,7 @@ module _ {C : Type 0} (counts : List ℕ) (most : ℕ) (numbered : ℕ → (ℕ 
       pub turns : ℕ
       pub enough : length ws ≤ i + turns
       pub count : n + length (left turns p i) ≡ length all
-      pub memory : run m (left turns p i) ≡ run m₀ all
+      pub memory : fold after m (left turns p i) ≡ fold after m₀ all
       pub answered : overwrite out p (replies after reply_of m (left turns p i)) ≡ overwrite out₀ 0 (replies after reply_of m₀ all)
 
     pub rest-start : Rest m₀ out₀ 0 0 0
@@ -37,7 +38,7 @@ module _ {C : Type 0} (counts : List ℕ) (most : ℕ) (numbered : ℕ → (ℕ 
           turns = length ws;
           enough = omega arith;
           count = omega (arith, ap length z);
-          memory = ap (λ cs. run m₀ cs) z;
+          memory = ap (λ cs. fold after m₀ cs) z;
           answered = ap (λ cs. overwrite out₀ 0 (replies after reply_of m₀ cs)) z;
         }
 
@@ -47,10 +48,9 @@ module _ {C : Type 0} (counts : List ℕ) (most : ℕ) (numbered : ℕ → (ℕ 
       here = call_at numbered ws i
 
       -- one more call
-      pub rest-next : ((v : List ℕ) (c : C) → length (reply_of v c) ≡ places c) → ((v : List ℕ) (c : C) (cs : List C) → run v (c ∷ cs) ≡ run (after v c) cs)
-          → {q : ℕ} {m' out' : List ℕ} → e ≢ 0 → q ≡ p + places here → out' ≡ overwrite out p (reply_of m here) → m' ≡ after m here → Rest m' out' (n + 1) e q
+      pub rest-next : length (reply_of m here) ≡ places here → {q : ℕ} {m' out' : List ℕ} → e ≢ 0 → q ≡ p + places here → out' ≡ overwrite out p (reply_of m here) → m' ≡ after m here → Rest m' out' (n + 1) e q
       unfolding replies
-      rest-next reply-places run_more {q} {m'} {out'} h a b d = step r.turns refl
+      rest-next reply-places {q} {m'} {out'} h a b d = step r.turns refl
         where
           above : i < e
           above = end-above counts most numbered places ws i (length out₀ - p) f h
@@ -67,19 +67,18 @@ module _ {C : Type 0} (counts : List ℕ) (most : ℕ) (numbered : ℕ → (ℕ 
                 enough = omega (arith, z, r.enough, above);
                 count = omega (arith, ap length l, r.count);
                 memory =
-                    ap (λ (v : List ℕ). run v (left k q e)) d ∙ sym (run_more m here (left k q e)) ∙ sym (ap (λ (cs : List C). run m cs) l) ∙ r.memory;
+                    ap (λ (v : List ℕ). fold after v (left k q e)) d ∙ sym (ap (λ (cs : List C). fold after m cs) l) ∙ r.memory;
                 answered =
-                    overwrite-both out p (reply_of m here) (replies after reply_of m' (left k q e)) (a ∙ ap (λ (x : ℕ). p + x) (sym (reply-places m here))) b
+                    overwrite-both out p (reply_of m here) (replies after reply_of m' (left k q e)) (a ∙ ap (λ (x : ℕ). p + x) (sym reply-places)) b
                     ∙ ap (λ (v : List ℕ). overwrite out p (reply_of m here ++ replies after reply_of v (left k q e))) d ∙ rw l at r.answered;
               }
 
       -- no more: so many calls were run, and memory and answers are theirs
-      pub rest-none : ((v : List ℕ) → run v [] ≡ v) → e ≡ 0
-          → (n ≡ length all) × (m ≡ run m₀ all) × (out ≡ overwrite out₀ 0 (replies after reply_of m₀ all))
+      pub rest-none : e ≡ 0 → (n ≡ length all) × (m ≡ fold after m₀ all) × (out ≡ overwrite out₀ 0 (replies after reply_of m₀ all))
       unfolding replies
-      rest-none run_none h =
+      rest-none h =
           let l : left r.turns p i ≡ [] = no_more counts most numbered places ws i (length out₀ - p) f h r.turns in (
             omega (arith, ap length l, r.count),
-            sym (run_none m) ∙ sym (ap (λ (cs : List C). run m cs) l) ∙ r.memory,
+            sym (ap (λ (cs : List C). fold after m cs) l) ∙ r.memory,
             sym (overwrite-none out p) ∙ rw l at r.answered,
           )

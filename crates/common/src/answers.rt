@@ -1,14 +1,21 @@
-// What a call answers, in two parts and as one number.
-ghost use Rattle.std.specs.Prelude.{◌≡◌};
-ghost use Rattle.common.specs.Packed.{outcome, packed};
+// What a call answers: its word, or the refusal; and the same as one number.
+ghost use Rattle.std.specs.Prelude.{◌≡◌, ℕ};
+ghost use Rattle.common.specs.Packed.{packed, said};
 
-// Ok with a word, or no with a refusal's number.
-#[derive(Clone, Copy)]
-pub struct Outcome(pub bool, pub u32);
+// The refusals of a kernel: each has its number.
+pub trait HasNumber {
+    ghost number: { Self → ℕ };
+
+    fn number(self) -> u32
+        ensures { result ≡ number self };
+}
 
 // The word of a call that is done, or the refusal's number above 32 zeros.
-pub fn pack(o: Outcome) -> u64
-    ensures { result ≡ packed (outcome o.0 o.1) }
+pub fn pack<R: HasNumber>(answer: Result<u32, R>) -> u64
+    ensures { result ≡ packed (said R.number answer) }
 {
-    if o.0 { o.1 as u64 } else { (o.1 as u64) << 32 }
+    match answer {
+        Ok(word) => u64::from(word),
+        Err(refusal) => u64::from(refusal.number()) << 32,
+    }
 }

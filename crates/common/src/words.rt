@@ -5,10 +5,10 @@ ghost use Rattle.std.specs.Prelude.{◌≡◌, get_or, set};
 pub fn read(m: &[u32], i: usize) -> u32
     ensures { result ≡ get_or m.now i 0 }
 {
-    if i < m.len() { m[i] } else { 0 }
+    m.get(i).copied().unwrap_or(0)
 }
 
-// Stores x at index i; past the end it does nothing.
+// Stores x at index i; past the end it does nothing. The index is compared: the contract of a slice's `get_mut` doesn't say what the slice is after a write.
 pub fn write(m: &mut [u32], i: usize, x: u32)
     ensures { m.new ≡ set m.old i x }
 {

@@ -1,5 +1,2 @@
 pub mod SlotPages
 pub mod SavedWords
-pub mod Target
-pub mod Toward
-pub mod Switched

@@ -1,7 +1,6 @@
--- Where a slot page stands, and when it cannot be used, in the code's terms. Assumes nothing.
-use mathlib.Core.Path.{◌≡◌, refl, sym, ap, ◌∙◌}
+-- Where a slot page stands, in the code's terms. Assumes nothing.
+use mathlib.Core.Path.{◌≡◌, sym, ap, ◌∙◌}
 use mathlib.Core.Logic.{◌≢◌}
-use mathlib.Core.Bool.{Bool, true, not}
 use mathlib.Core.List.{List}
 use Prim.Native.Nat.{ℕ, suc, ◌+◌, ◌-◌, ◌*◌, ◌%◌, ◌^◌, ◌≤◌, ◌<◌}
 use native.Mathlib.Nat.{suc-mul}
@@ -9,11 +8,10 @@ use native.Mathlib.Omega.{arith}
 use borrow.Author.Tests.{eq-eqb, ne_eqb}
 use lib.Pow.{pow_pos, pow-add}
 use Rattle.memory.specs.Geometry.{page_words, page_bytes, address_end, address, page_of, flat_pages}
-use Rattle.memory.specs.Entry.{accessible, holds}
-use Rattle.memory.specs.Partition.{pages, directory, shadow1, table_word, lent}
-use Rattle.memory.specs.Contexts.{slots_at, slots_entry, slot_page, no_slots}
+use Rattle.memory.specs.Partition.{pages}
+use Rattle.memory.specs.Contexts.{slots_at}
 use Rattle.memory.proofs.Geometry.{page-address, address_end-is}
-use Rattle.pages.proofs.Laws.{one_bit, hand-absent, hand-shut, hand-rest}
+use Rattle.pages.proofs.Laws.{one_bit}
 
 -- the last address of a page is that of the last virtual page
 last-page : (b : ℕ) → page_of b (address_end b - page_bytes b) ≡ 2 ^ (2 * b) - 1
@@ -40,46 +38,3 @@ module _ (b : ℕ) (m : List ℕ) (d : ℕ) where
   pub slots-other : b ≤ 10 → d ≢ 1 → 1 * 2 ^ (2 * b) % 4294967296 - 1 ≡ page_of b (slots_at b m d)
   unfolding slots_at
   slots-other l n = rw (ne_eqb d 1 n) (ap (λ (x : ℕ). x - 1) (one_bit (2 * b) (omega arith)) ∙ sym (last-page b))
-
-  -- 20, test by test
-  none-absent : slots_entry b m d ≡ 0 → no_slots b m d ≡ true
-  none-absent e = rw (hand-absent b m d (slots_at b m d) e) refl
-
-  none-shut : slots_entry b m d ≢ 0 → accessible (slots_entry b m d) ≢ 1 → no_slots b m d ≡ true
-  none-shut n a = rw (hand-shut b m d (slots_at b m d) n a) refl
-
-  none_lent : slots_entry b m d ≢ 0 → accessible (slots_entry b m d) ≡ 1 → lent b m d (slots_at b m d) ≢ 0 → no_slots b m d ≡ true
-  none_lent n a l = rw (hand-rest b m d (slots_at b m d) n a, ne_eqb (lent b m d (slots_at b m d)) 0 l) refl
-
-  none-rights : slots_entry b m d ≢ 0 → accessible (slots_entry b m d) ≡ 1 → lent b m d (slots_at b m d) ≡ 0
-      → no_slots b m d ≡ not (holds 3 (slots_entry b m d))
-  none-rights n a l = rw (hand-rest b m d (slots_at b m d) n a, eq-eqb (lent b m d (slots_at b m d)) 0 l) refl
-
-  -- the same by what the calls return: the slots' virtual page v, the directory r and its word w, whether accessible a, shadow 1 s and its word l
-  module _ {v r w : ℕ} (p : v ≡ page_of b (slots_at b m d)) (q : r ≡ directory b m d) (e : w ≡ table_word b m r v) where
-    entry-is : w ≡ slots_entry b m d
-    entry-is = cc
-
-    pub page-is : {x : ℕ} → x ≡ page_of b w → x ≡ slot_page b m d
-    page-is h = h ∙ ap (page_of b) entry-is
-
-    pub by_absent : w ≡ 0 → true ≡ no_slots b m d
-    by_absent z = sym (none-absent (sym entry-is ∙ z))
-
-    module _ (n : w ≢ 0) {a : ℕ} (f : a ≡ accessible w) where
-      access_is : a ≡ accessible (slots_entry b m d)
-      access_is = f ∙ ap accessible entry-is
-
-      pub by_shut : a ≢ 1 → true ≡ no_slots b m d
-      by_shut k = sym (none-shut (λ z. n (entry-is ∙ z)) (λ z. k (access_is ∙ z)))
-
-      module _ (o : a ≡ 1) {s l : ℕ} (g : s ≡ shadow1 b m d) (h : l ≡ table_word b m s v) where
-        lent_is : l ≡ lent b m d (slots_at b m d)
-        lent_is = cc
-
-        pub by_lent : l ≢ 0 → true ≡ no_slots b m d
-        by_lent k = sym (none_lent (λ z. n (entry-is ∙ z)) (sym access_is ∙ o) (λ z. k (lent_is ∙ z)))
-
-        pub by_rights : {x : Bool} → l ≡ 0 → x ≡ holds 3 w → not x ≡ no_slots b m d
-        by_rights k y =
-            ap not (y ∙ ap (holds 3) entry-is) ∙ sym (none-rights (λ z. n (entry-is ∙ z)) (sym access_is ∙ o) (sym lent_is ∙ k))

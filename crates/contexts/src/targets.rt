@@ -4,13 +4,14 @@ ghost use Rattle.memory.specs.Geometry.{page_of};
 ghost use Rattle.soundness.specs.Test.{sound_test};
 ghost use Rattle.rules.specs.Row.{first};
 ghost use Rattle.rules.specs.Conditions.{target, toward};
-ghost use Rattle.pages.specs.Width.{Width};
-ghost use Rattle.answers.specs.Said.{Told};
+ghost use Rattle.answers.specs.Said.{refusal_in};
+
+use answers::Refusal;
+use pages::IndexWidth;
 
 // The word that names the partition: that of the child's mapping, or the caller's own for its parent.
-pub fn target_word(b: u32, m: &[u32], t: u32) -> u32
-    requires { Width b }
-    ensures { page_of b result ≡ target b m.now t }
+pub fn target_word(b: IndexWidth, m: &[u32], t: u32) -> u32
+    ensures { page_of b.bits result ≡ target b.bits m.now t }
 {
     let d = pages::current(b, m);
     if t == 0 {
@@ -19,29 +20,28 @@ pub fn target_word(b: u32, m: &[u32], t: u32) -> u32
     pages::mapping(b, m, d, t)
 }
 
-// 1 24 3, and 5 or 14. Where none is given the answer is 0.
-pub fn toward_refusal(b: u32, m: &[u32], good: bool, t: u32) -> u32
-    requires width { Width b }
-    requires judged { good ≡ sound_test b m.now }
-    ensures { (result ≡ first (toward b m.now t)) × Told result }
+// 1 24 3, and 5 or 14.
+pub fn toward_refusal(b: IndexWidth, m: &[u32], good: bool, t: u32) -> Result<(), Refusal>
+    requires judged { good ≡ sound_test b.bits m.now }
+    ensures { refusal_in result ≡ first (toward b.bits m.now t) }
 {
     if !good {
-        return 1;
+        return Err(Refusal::Damaged);
     }
     if pages::edition_of(b) != 0 {
-        return 24;
+        return Err(Refusal::Edition);
     }
     if t == 0 {
         if pages::parent(b, m, pages::current(b, m)).0 == 0 {
-            return 14;
+            return Err(Refusal::Root);
         }
-        return 0;
+        return Ok(());
     }
     if pages::bad_page(b, t) {
-        return 3;
+        return Err(Refusal::Address);
     }
     if moves::no_child(b, m, t) {
-        return 5;
+        return Err(Refusal::Child);
     }
-    0
+    Ok(())
 }

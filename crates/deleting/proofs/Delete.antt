@@ -38,10 +38,6 @@ return_all_append b m d (u ∷ us) vs = return_all_append b (return_page b true 
 
 -- ---- the effect
 
--- what is asked of the child's list is asked of the list page l
-pub few-at : (b : ℕ) (m : List ℕ) (c k l : ℕ) → k ≡ child b m c → l ≡ list b m k → word b m (list b m (child b m c)) 0 ≤ 61 → word b m l 0 ≤ 61
-few-at b m c k l hk hl h = rw (hl, hk) h
-
 -- r words were saved at the start of the buffer t, and they are lent on
 pub saved-part : (s t ws : List ℕ) (r : ℕ) → t ≡ overwrite s 0 ws → r ≡ length ws → r ≤ length s → take (r - 0) t ≡ ws
 saved-part s t ws r e k h =

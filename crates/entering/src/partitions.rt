@@ -1,72 +1,60 @@
 // enter and leave: the current partition changes.
-ghost use Rattle.std.specs.Prelude.{◌≡◌, ◌≤◌};
+ghost use Rattle.std.specs.Prelude.{◌≡◌};
 ghost use Rattle.soundness.specs.Test.{sound_test};
 ghost use Rattle.rules.specs.Call;
 ghost use Rattle.rules.specs.Refusals.{refusal};
 ghost use Rattle.rules.specs.Effects.{effect};
 ghost use Rattle.rules.specs.Calls.{answer, after};
-ghost use Rattle.pages.specs.Width.{Width};
-ghost use Rattle.answers.specs.Said.{said};
+ghost use Rattle.answers.specs.Said.{refusal_in, said};
 
-use answers::Answer;
-use pages::PhysicalPage;
+use answers::{Answer, Refusal};
+use pages::{IndexWidth, PhysicalPage};
 
 // "current is child"
-fn enter_effect(b: u32, m: &mut [u32], c: u32)
-    requires { Width b }
-    ensures { m.new ≡ effect b m.old (Call.enter c) }
+fn enter_effect(b: IndexWidth, m: &mut [u32], c: u32)
+    ensures { m.new ≡ effect b.bits m.old (Call.enter c) }
 {
     let w = pages::mapping(b, m, pages::current(b, m), c);
     pages::write_word(b, m, PhysicalPage(0), 4, pages::frame(b, w));
 }
 
 // 1 3 5
-pub fn enter(b: u32, m: &mut [u32], good: bool, c: u32) -> Answer
-    requires width { Width b }
-    requires judged { good ≡ sound_test b m.old }
-    ensures { (said result ≡ answer b m.old (Call.enter c)) × (m.new ≡ after b m.old (Call.enter c)) }
+pub fn enter(b: IndexWidth, m: &mut [u32], good: bool, c: u32) -> Answer
+    requires judged { good ≡ sound_test b.bits m.old }
+    ensures { (said result ≡ answer b.bits m.old (Call.enter c)) × (m.new ≡ after b.bits m.old (Call.enter c)) }
 {
-    let n = moves::child_refusal(b, m, good, &[c], c);
-    if n != 0 {
-        return answers::reply(n, 0);
-    }
+    moves::child_refusal(b, m, good, &[c], c)?;
     enter_effect(b, m, c);
-    answers::reply(0, 0)
+    Ok(0)
 }
 
 // 1 14
-fn leave_refusal(b: u32, m: &[u32], good: bool) -> u32
-    requires width { Width b }
-    requires judged { good ≡ sound_test b m.now }
-    ensures { (result ≡ refusal b m.now Call.leave) × (result ≤ 16) }
+fn leave_refusal(b: IndexWidth, m: &[u32], good: bool) -> Result<(), Refusal>
+    requires judged { good ≡ sound_test b.bits m.now }
+    ensures { refusal_in result ≡ refusal b.bits m.now Call.leave }
 {
     if !good {
-        return 1;
+        return Err(Refusal::Damaged);
     }
     if pages::parent(b, m, pages::current(b, m)).0 == 0 {
-        return 14;
+        return Err(Refusal::Root);
     }
-    0
+    Ok(())
 }
 
 // "current is parent": the parent's descriptor address is word 11 of the descriptor
-fn leave_effect(b: u32, m: &mut [u32])
-    requires { Width b }
-    ensures { m.new ≡ effect b m.old Call.leave }
+fn leave_effect(b: IndexWidth, m: &mut [u32])
+    ensures { m.new ≡ effect b.bits m.old Call.leave }
 {
     let w = pages::read_word(b, m, pages::current(b, m), 11);
     pages::write_word(b, m, PhysicalPage(0), 4, pages::frame(b, w));
 }
 
-pub fn leave(b: u32, m: &mut [u32], good: bool) -> Answer
-    requires width { Width b }
-    requires judged { good ≡ sound_test b m.old }
-    ensures { (said result ≡ answer b m.old Call.leave) × (m.new ≡ after b m.old Call.leave) }
+pub fn leave(b: IndexWidth, m: &mut [u32], good: bool) -> Answer
+    requires judged { good ≡ sound_test b.bits m.old }
+    ensures { (said result ≡ answer b.bits m.old Call.leave) × (m.new ≡ after b.bits m.old Call.leave) }
 {
-    let n = leave_refusal(b, m, good);
-    if n != 0 {
-        return answers::reply(n, 0);
-    }
+    leave_refusal(b, m, good)?;
     leave_effect(b, m);
-    answers::reply(0, 0)
+    Ok(0)
 }

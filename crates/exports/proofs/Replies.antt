@@ -5,7 +5,6 @@ use native.Mathlib.Omega.{arith}
 use Rattle.rules.specs.Row.{Answer, reply}
 use Rattle.answers.specs.Packed.{packed}
 use Rattle.common.proofs.Packing.{upper_reply}
-pub use Rattle.common.proofs.Packing.{packs}
 
 -- the refusal's number of an answer whose word is 0
 pub refusal_of : {r x n : ℕ} {a : Answer} → r ≡ x / 2 ^ 32 → x ≡ packed a → a ≡ reply n 0 → r ≡ n

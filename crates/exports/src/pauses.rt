@@ -1,5 +1,5 @@
 // "Pause and resume": the words of the memory, then the arguments. The target is a child's address, or 0 for the parent. They answer as document 01's
-// calls do (calls).
+// calls do (numbered).
 ghost use Rattle.std.specs.Prelude.{◌≡◌, [], ◌∷◌};
 ghost use Rattle.memory.specs.Words.{overwrite};
 ghost use Rattle.rules.specs.Call;
@@ -53,8 +53,6 @@ pub extern "C" fn tumashqin_resume(
         × (words.new ≡ after words.old (Call.resume target slot)) }
 {
     let r = kernel::resume(words, target, slot);
-    let answered = r.answer;
-    let saved = r.words;
-    pages::copy(out, &saved);
-    pack(answered)
+    pages::copy(out, &r.words);
+    pack(r.answer)
 }

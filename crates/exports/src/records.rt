@@ -5,7 +5,7 @@ ghost use Rattle.rules.specs.Row.{first};
 ghost use Rattle.rules.specs.Record.{writer_refusals, after_writer, reader_refusal, record_begin, record_end, revision_of};
 
 use crate::halves::upper;
-use answers::pack;
+use answers::{HasNumber, pack};
 
 // The record of the memory, written at the start of `out`: 0, or the refusal.
 #[unsafe(no_mangle)]
@@ -16,12 +16,15 @@ pub extern "C" fn tumashqin_write_record(words: &[u32], revision: &[u8], out: &m
     upper(pack(startup::write_record(words, revision, out)))
 }
 
-// 0, or why the bytes are no record: 17 or 18.
+// 0, or why the bytes are no record: 17 or 18, a number since C is given one.
 #[unsafe(no_mangle)]
 pub extern "C" fn tumashqin_record_refusal(bytes: &[u8]) -> u32
     ensures { result ≡ reader_refusal bytes.now }
 {
-    record::record_refusal(bytes)
+    match record::record_refusal(bytes) {
+        Ok(()) => 0,
+        Err(refusal) => refusal.number(),
+    }
 }
 
 // 0 where the record is refused.

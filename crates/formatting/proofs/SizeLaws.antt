@@ -4,7 +4,7 @@ use mathlib.Core.Logic.{◌≢◌}
 use mathlib.Core.Bool.{Bool, true, false, not, ◌||◌}
 use mathlib.Core.List.{List}
 use Prim.Native.Nat.{ℕ, ◌+◌, ◌-◌, ◌*◌, ◌/◌, ◌%◌, ◌^◌, ◌≤◌, ◌<◌}
-use native.Mathlib.Nat.{div-add-mod', mul-le-mul, mul-le-mul_right, suc-mul}
+use native.Mathlib.Nat.{div-le_self, div-add-mod', mul-le-mul, mul-le-mul_right, suc-mul}
 use native.Mathlib.Numerals.{add-one}
 use native.Mathlib.Omega.{arith}
 use borrow.Author.Tests.{eq-eqb, ne_eqb, lt-ltb, le-ltb, eqb-true, ltb-false}
@@ -53,6 +53,10 @@ near_address b k h l =
 
 pub near_product : (q w : ℕ) → q ≤ 1364 → w ≤ 1024 → q * w ≤ 1396736
 near_product q w h k = mul-le-mul h k
+
+-- so many pages have few threes
+pub few_threes : (b n : ℕ) → b ≤ 10 → n ≤ 4096 → threes_for b n ≤ 6144
+few_threes b n h k = omega (arith, words-most b h, div-le_self (n - 5 + (page_words b + 2)) (page_words b + 3))
 
 -- the first root page lies in the memory
 pub first-inside : (b n : ℕ) → 6 ≤ b → 16 ≤ n → 6 + 3 * threes_for b n ≤ n

@@ -20,10 +20,6 @@ either : (t : Bool) → ◌≡◌ {A = ℕ} (cond t 0 0) 0
 either true = refl
 either false = refl
 
-pub descriptor-is : (b i d t s₁ s₂ l : ℕ) → d ≡ address b 1 → t ≡ address b 2 → s₁ ≡ address b 3 → s₂ ≡ address b 4 → l ≡ address b 5
-    → get_or (0 ∷ d ∷ 0 ∷ t ∷ 0 ∷ s₁ ∷ 0 ∷ s₂ ∷ 0 ∷ l ∷ 0 ∷ 0 ∷ []) i 0 ≡ root_descriptor_word b i
-descriptor-is b i d t s₁ s₂ l hd ht h₁ h₂ hl = rw (hd, ht, h₁, h₂, hl)
-
 module _ (b n t : ℕ) (e : t ≡ threes_for b n) where
   pub header_is : (i root first edition : ℕ) → root ≡ address b 1 → first ≡ address b (6 + 3 * t) → edition ≡ edition_of b
       → get_or (n ∷ t ∷ root ∷ first ∷ root ∷ edition ∷ []) i 0 ≡ header_word b n i
@@ -31,21 +27,6 @@ module _ (b n t : ℕ) (e : t ≡ threes_for b n) where
 
   pub directory-out : (k i : ℕ) → t ≤ i → 0 ≡ root_directory_word b n k i
   directory-out k i h = simp (le-ltb i (threes_for b n) (omega arith))
-
-  pub directory_in : (k i : ℕ) → i < t → address b (6 + 3 * i + k) + 1 ≡ root_directory_word b n k i
-  directory_in k i h = simp (lt-ltb i (threes_for b n) (omega arith))
-
-  pub list-first : (i : ℕ) → i ≡ 0 → 1 + 6 * t ≡ root_list_word b n i
-  list-first i h = simp (eq-eqb i 0 h) (omega arith)
-
-  pub list-odd : (i : ℕ) → i ≢ 0 → i % 2 ≢ 0 → 0 ≡ root_list_word b n i
-  list-odd i h k = simp (ne_eqb i 0 h, ne_eqb (i % 2) 0 k)
-
-  pub list-after : (i : ℕ) → i ≢ 0 → i % 2 ≡ 0 → 6 * t < i → 0 ≡ root_list_word b n i
-  list-after i h k l = simp (ne_eqb i 0 h, eq-eqb (i % 2) 0 k, lt-leb i (6 * threes_for b n) (omega arith))
-
-  pub list-pair : (i : ℕ) → i ≢ 0 → i % 2 ≡ 0 → i ≤ 6 * t → address b (5 + i / 2) ≡ root_list_word b n i
-  list-pair i h k l = simp (ne_eqb i 0 h, eq-eqb (i % 2) 0 k, le-leb i (6 * threes_for b n) (omega arith))
 
   pub table_none : (v : ℕ) → v ≡ 0 → 0 ≡ root_table_word b n v
   table_none v h = simp (lt-leb 1 v (omega arith))

@@ -1,129 +1,108 @@
 // The indices of a directory and its shadows: "All three have tables at the same i", "each listed three stands at one directory index, and each index
 // that has tables is listed once".
-ghost use Rattle.std.specs.Prelude.{◌≡◌, ◌&&◌, ◌+◌, ◌<◌, ◌≤◌, eqb, length};
+ghost use Rattle.std.specs.Prelude.{◌≡◌, ◌&&◌, ◌+◌, ◌<◌, ◌≤◌, eqb, length, MatchOption};
 ghost use Rattle.walk.specs.Finite.{from, all, once};
 ghost use Rattle.memory.specs.Geometry.{page_words};
 ghost use Rattle.memory.specs.Partition;
 ghost use Rattle.soundness.specs.Test.{stands};
 ghost use Rattle.own_pages.specs.Asked.{no_tables, index_test, indices_left, Skipped};
-ghost use Rattle.own_pages.specs.Named.{Named, Listed};
-ghost use Rattle.pages.specs.Width.{Width};
 
 use crate::tables::three_links;
-use crate::threes::{all_met, place};
-use own_pages::{Own, words_at};
+use crate::threes::{Listed, all_met};
+use own_pages::Own;
 use pages::page_words;
 
-// An index has the forms, and has no tables or is listed once, at a three that stands at no index before it. met has a 1 for each three that was met, and
-// an index that passes adds its own.
-fn index_test(b: u32, m: &[u32], met: &mut [u8], o: Own, i: u32) -> bool
-    requires width { Width b }
-    requires listed { Listed b m.now o }
-    requires index { i < page_words b }
-    requires room { Partition.threes b m.now o.descriptor.0 ≤ length met.old }
-    ensures { indices_left b m.now o.descriptor.0 met.old i
-        ≡ result && indices_left b m.now o.descriptor.0 met.new (i + 1) }
-{
-    let t = words_at(b, m, o, i);
-    if !three_links(b, m, t) {
-        return false;
-    }
-    if t.0 == 0 {
-        return true;
-    }
-    let j = place(b, m, o, t);
-    if j == o.threes {
-        return false;
-    }
-    let k = j as usize;
-    if met[k] != 0 {
-        return false;
-    }
-    met[k] = 1;
-    true
-}
-
 // The three words of an index, joined.
-fn joined_at(b: u32, m: &[u32], o: Own, i: u32) -> u32
-    requires width { Width b }
-    requires named { Named b m.now o }
-    requires place { i < page_words b }
-    ensures { eqb result 0 ≡ no_tables b m.now o.descriptor.0 i }
+fn joined_at(o: &Own, i: u32) -> u32
+    requires place { i < page_words o.now.width.bits }
+    ensures { eqb result 0 ≡ no_tables o.now.width.bits o.now.words.now o.now.descriptor.0 i }
 {
-    let t = words_at(b, m, o, i);
+    let t = o.words_at(i);
     t.0 | t.1 | t.2
 }
 
 // Eight indices from i on have no tables.
-fn row_empty(b: u32, m: &[u32], o: Own, i: u32) -> bool
-    requires width { Width b }
-    requires named { Named b m.now o }
-    requires room { i + 8 ≤ page_words b }
-    ensures { result ≡ all (no_tables b m.now o.descriptor.0) (from 8 i) }
+fn row_empty(o: &Own, i: u32) -> bool
+    requires room { i + 8 ≤ page_words o.now.width.bits }
+    ensures { result ≡ all (no_tables o.now.width.bits o.now.words.now o.now.descriptor.0) (from 8 i) }
 {
-    let end = i + 8;
-    let mut joined: u32 = 0;
-    let mut k = i;
-    while k < end {
-        joined = joined | joined_at(b, m, o, k);
-        k += 1;
+    let mut joined = 0;
+    for k in i..i + 8 {
+        joined |= joined_at(o, k);
     }
     joined == 0
 }
 
 // From i on, eight indices at a time, past those that have no tables.
-fn next_row(b: u32, m: &[u32], o: Own, i: u32) -> u32
-    requires width { Width b }
-    requires named { Named b m.now o }
-    requires start { i ≤ page_words b }
-    ensures { Skipped b m.now o.descriptor.0 i result }
+fn next_row(o: &Own, i: u32) -> u32
+    requires start { i ≤ page_words o.now.width.bits }
+    ensures { Skipped o.now.width.bits o.now.words.now o.now.descriptor.0 i result }
 {
-    let n = page_words(b);
-    let mut k = i;
-    while 8 <= n - k {
-        if !row_empty(b, m, o, k) {
+    let rows = (page_words(o.width) - i) / 8;
+    for row in 0..rows {
+        let k = i + 8 * row;
+        if !row_empty(o, k) {
             return k;
         }
-        k += 8;
     }
-    k
+    i + 8 * rows
 }
 
-// From i on past the indices that have no tables, which are most.
-fn next_used(b: u32, m: &[u32], o: Own, i: u32) -> u32
-    requires width { Width b }
-    requires named { Named b m.now o }
-    requires start { i ≤ page_words b }
-    ensures { Skipped b m.now o.descriptor.0 i result }
+// The first index from i on that has tables: most have none.
+fn next_used(o: &Own, i: u32) -> Option<u32>
+    requires start { i ≤ page_words o.now.width.bits }
+    ensures { let skipped = Skipped o.now.width.bits o.now.words.now o.now.descriptor.0 i in
+        let n = page_words o.now.width.bits in
+        MatchOption result (skipped n) (λ r. (r < n) × skipped r) }
 {
-    let n = page_words(b);
-    let mut k = next_row(b, m, o, i);
-    while k < n {
-        if joined_at(b, m, o, k) != 0 {
-            return k;
-        }
-        k += 1;
-    }
-    k
+    (next_row(o, i)..page_words(o.width)).find(|k| joined_at(o, *k) != 0)
 }
 
-// All indices of a partition, and each three of its list at one of them.
-pub fn indices_test(b: u32, m: &[u32], o: Own) -> bool
-    requires width { Width b }
-    requires listed { Listed b m.now o }
-    ensures { result
-        ≡ all (index_test b m.now o.descriptor.0) (from (page_words b) 0)
-        && all (λ j. once (stands b m.now o.descriptor.0 j) (from (page_words b) 0))
-        (from (Partition.threes b m.now o.descriptor.0) 0) }
-{
-    let n = page_words(b);
-    let mut met = [0u8; 10];
-    let mut i = next_used(b, m, o, 0);
-    while i < n {
-        if !index_test(b, m, &mut met, o, i) {
+impl Listed<'_> {
+    // An index has the forms, and has no tables or is listed once, at a three that stands at no index before it. met has a 1 for each three that was met,
+    // and an index that passes adds its own.
+    fn index_test(&self, met: &mut [u8], i: u32) -> bool
+        requires index { i < page_words self.now.own.width.bits }
+        requires room { self.now.own.threes ≤ length met.old }
+        ensures { let o = self.now.own in
+            indices_left o.width.bits o.words.now o.descriptor.0 met.old i
+            ≡ result && indices_left o.width.bits o.words.now o.descriptor.0 met.new (i + 1) }
+    {
+        let t = self.own.words_at(i);
+        if !three_links(self.own.width, self.own.words, t) {
             return false;
         }
-        i = next_used(b, m, o, i + 1);
+        if t.0 == 0 {
+            return true;
+        }
+        let Some(j) = self.place(t) else {
+            return false;
+        };
+        let k = j as usize;
+        if met[k] != 0 {
+            return false;
+        }
+        met[k] = 1;
+        true
     }
-    all_met(&met, o.threes)
+
+    // All indices of a partition, and each three of its list at one of them.
+    pub fn indices_test(&self) -> bool
+        ensures { let o = self.now.own in
+            result
+            ≡ all (index_test o.width.bits o.words.now o.descriptor.0) (from (page_words o.width.bits) 0)
+            && all (λ j. once (stands o.width.bits o.words.now o.descriptor.0 j) (from (page_words o.width.bits) 0))
+            (from (Partition.threes o.width.bits o.words.now o.descriptor.0) 0) }
+    {
+        // Numbers and not flags, in an array: `indices_left` adds them to what is still to be met, and fixed memory cannot fail.
+        let mut met = [0u8; 10];
+        let mut next = next_used(&self.own, 0);
+        while let Some(i) = next {
+            if !self.index_test(&mut met, i) {
+                return false;
+            }
+            next = next_used(&self.own, i + 1);
+        }
+        all_met(&met, self.own.threes)
+    }
 }

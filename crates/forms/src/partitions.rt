@@ -3,70 +3,54 @@ ghost use Rattle.std.specs.Prelude.{◌≡◌, ◌&&◌};
 ghost use Rattle.walk.specs.Finite.{from, all};
 ghost use Rattle.memory.specs.Geometry.{page_words};
 ghost use Rattle.soundness.specs.Test.{descriptor_test, directory_test, list_test, threes_test};
-ghost use Rattle.own_pages.specs.Named.{Named};
-ghost use Rattle.pages.specs.Width.{Width};
 
-use crate::indices::indices_test;
-use own_pages::{Own, list_at, look_up, pairs_form, physical_address, zero_from};
-use pages::{PhysicalPage, most_flag, read_word};
+use crate::threes::Listed;
+use own_pages::{Own, pairs_form, physical_address, zero_from};
+use pages::{IndexWidth, PhysicalPage, most_flag, read_word};
 
 // "twelve words, pairs of virtual address in the parent and physical address ..; then 0 and the parent's descriptor address. The rest 0." Word 12
 // is the live flag.
-pub fn descriptor_test(b: u32, m: &[u32], d: PhysicalPage) -> bool
-    requires { Width b }
-    ensures { result ≡ descriptor_test b m.now d.0 }
+#[tactic(auto, using(crate::proofs::Laws::Whole::descriptor_pairs), unfolding(soundness::specs::Test::descriptor_test))]
+pub fn descriptor_test(b: IndexWidth, m: &[u32], d: PhysicalPage) -> bool
+    ensures { result ≡ descriptor_test b.bits m.now d.0 }
 {
-    if !pairs_form(b, m, d, 0, 5) {
-        return false;
-    }
-    if read_word(b, m, d, 10) != 0 {
-        return false;
-    }
-    if !physical_address(b, m, read_word(b, m, d, 11)) {
-        return false;
-    }
-    if most_flag(b) < read_word(b, m, d, 12) {
-        return false;
-    }
-    zero_from(b, m, d, 13)
+    pairs_form(b, m, d, 0, 5)
+        && read_word(b, m, d, 10) == 0
+        && physical_address(b, m, read_word(b, m, d, 11))
+        && read_word(b, m, d, 12) <= most_flag(b)
+        && zero_from(b, m, d, 13)
 }
 
 // "word 0 first free word index, 1+6n with n threes; then pairs ..; word 63 next page, here always 0. Unused words 0." and "at most 10 threes". That is
 // tested first, so that no more pairs are looked at on any memory.
-pub fn list_test(b: u32, m: &[u32], o: Own) -> bool
-    requires width { Width b }
-    requires named { Named b m.now o }
-    ensures { result ≡ list_test b m.now o.descriptor.0 }
+#[tactic(auto, unfolding(soundness::specs::Test::list_test, own_pages::specs::Asked::pair_form))]
+pub fn list_test(o: &Own) -> bool
+    ensures { result ≡ list_test o.now.width.bits o.now.words.now o.now.descriptor.0 }
 {
     let n = o.threes;
     if 10 < n {
         return false;
     }
-    let free = list_at(b, m, o, 0);
-    if free != 1 + 6 * n {
-        return false;
-    }
-    if !pairs_form(b, m, o.list, 1, 3 * n) {
-        return false;
-    }
-    zero_from(b, m, o.list, free)
+    let free = o.list_at(0);
+    free == 1 + 6 * n
+        && pairs_form(o.width, o.words, o.list, 1, 3 * n)
+        && zero_from(o.width, o.words, o.list, free)
 }
 
 // The descriptor, the list, the directory and its shadows, and that list and directory agree.
-pub fn forms_test(b: u32, m: &[u32], d: PhysicalPage) -> bool
-    requires { Width b }
+pub fn forms_test(b: IndexWidth, m: &[u32], d: PhysicalPage) -> bool
     ensures { result
-        ≡ (descriptor_test b m.now d.0
-        && all (directory_test b m.now d.0) (from (page_words b) 0)
-        && list_test b m.now d.0
-        && threes_test b m.now d.0) }
+        ≡ (descriptor_test b.bits m.now d.0
+        && all (directory_test b.bits m.now d.0) (from (page_words b.bits) 0)
+        && list_test b.bits m.now d.0
+        && threes_test b.bits m.now d.0) }
 {
     if !descriptor_test(b, m, d) {
         return false;
     }
-    let o = look_up(b, m, d);
-    if !list_test(b, m, o) {
+    let own = Own::look_up(b, m, d);
+    if !list_test(&own) {
         return false;
     }
-    indices_test(b, m, o)
+    Listed { own }.indices_test()
 }

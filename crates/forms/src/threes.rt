@@ -1,75 +1,56 @@
 // "Each listed three stands at one directory index, and each index that has tables is listed once."
-ghost use Rattle.std.specs.Prelude.{◌≡◌, ◌&&◌, ◌+◌, ◌*◌, ◌<◌, ◌≤◌, eqb, length, get_or};
-ghost use Rattle.walk.specs.Finite.{from, all};
+ghost use Rattle.std.specs.Prelude.{◌≡◌, true, false, ℕ, ◌&&◌, ◌+◌, ◌*◌, ◌<◌, ◌≤◌, eqb, length, get_or, MatchOption};
+ghost use Rattle.walk.specs.Finite.{from, all, once};
 ghost use Rattle.memory.specs.Words.{word};
 ghost use Rattle.memory.specs.Partition;
-ghost use Rattle.own_pages.specs.Asked.{listed_as, First, Sole};
-ghost use Rattle.own_pages.specs.Named.{Listed};
-ghost use Rattle.pages.specs.Width.{Width};
+ghost use Rattle.soundness.specs.Test.{list_test};
+ghost use Rattle.own_pages.specs.Asked.{listed_as, Never, First, Sole};
 
-use own_pages::{Own, Three, list_at};
+use own_pages::{Own, Three};
 
-// The words with which three j of the list stands: page table, shadow 1 table, shadow 2 table, and 1 more.
-pub fn three_of(b: u32, m: &[u32], o: Own, j: u32) -> Three
-    requires width { Width b }
-    requires listed { Listed b m.now o }
-    requires there { j < Partition.threes b m.now o.descriptor.0 }
-    ensures { (result.0 ≡ word b m.now (Partition.list b m.now o.descriptor.0) (2 + 6 * j) + 1)
-        × (result.1 ≡ word b m.now (Partition.list b m.now o.descriptor.0) (4 + 6 * j) + 1)
-        × (result.2 ≡ word b m.now (Partition.list b m.now o.descriptor.0) (6 + 6 * j) + 1) }
-{
-    let p = 6 * (j as usize);
-    let x = list_at(b, m, o, 2 + p);
-    let y = list_at(b, m, o, 4 + p);
-    let z = list_at(b, m, o, 6 + p);
-    Three(x + 1, y + 1, z + 1)
+// The pages of a partition whose list has passed.
+#[derive(Clone, Copy)]
+pub struct Listed<'m> {
+    pub own: Own<'m>,
+    pub ghost passed: { list_test own.width.bits own.words.now own.descriptor.0 ≡ true },
 }
 
-fn same(t: Three, u: Three) -> bool
-    ensures { result ≡ eqb t.0 u.0 && eqb t.1 u.1 && eqb t.2 u.2 }
-{
-    if t.0 != u.0 {
-        return false;
+impl Listed<'_> {
+    // The words with which three j of the list stands: page table, shadow 1 table, shadow 2 table, and 1 more.
+    pub fn three_of(&self, j: u32) -> Three
+        requires there { j < self.now.own.threes }
+        ensures { let o = self.now.own in
+            let listed = word o.width.bits o.words.now (Partition.list o.width.bits o.words.now o.descriptor.0) in
+            (result.0 ≡ listed (2 + 6 * j) + 1) × (result.1 ≡ listed (4 + 6 * j) + 1) × (result.2 ≡ listed (6 + 6 * j) + 1) }
+    {
+        let p = 6 * (j as usize);
+        let x = self.own.list_at(2 + p);
+        let y = self.own.list_at(4 + p);
+        let z = self.own.list_at(6 + p);
+        Three(x + 1, y + 1, z + 1)
     }
-    if t.1 != u.1 {
-        return false;
-    }
-    t.2 == u.2
-}
 
-// The first three from j on whose words are t, or the list's end.
-fn next_listed(b: u32, m: &[u32], o: Own, t: Three, j: u32) -> u32
-    requires width { Width b }
-    requires listed { Listed b m.now o }
-    requires start { j ≤ Partition.threes b m.now o.descriptor.0 }
-    ensures { First (listed_as b m.now o.descriptor.0 t.0 t.1 t.2) (Partition.threes b m.now o.descriptor.0) j result }
-{
-    let n = o.threes;
-    let mut k = j;
-    while k < n {
-        if same(t, three_of(b, m, o, k)) {
-            return k;
+    // The first three from j on whose words are t.
+    fn next_listed(&self, t: Three, j: u32) -> Option<u32>
+        ensures { let o = self.now.own in
+            let f = listed_as o.width.bits o.words.now o.descriptor.0 t.0 t.1 t.2 in
+            MatchOption result (Never f o.threes j) (First f o.threes j) }
+    {
+        (j..self.own.threes).find(|k| t == self.three_of(*k))
+    }
+
+    // The place of the one three whose words are t, where t is listed once.
+    pub fn place(&self, t: Three) -> Option<u32>
+        ensures { let o = self.now.own in
+            let f = listed_as o.width.bits o.words.now o.descriptor.0 t.0 t.1 t.2 in
+            MatchOption result (once f (from o.threes 0) ≡ false) (Sole f o.threes) }
+    {
+        let j = self.next_listed(t, 0)?;
+        match self.next_listed(t, j + 1) {
+            None => Some(j),
+            Some(_) => None,
         }
-        k += 1;
     }
-    k
-}
-
-// The place of the one three whose words are t, or the list's end where t is not listed once.
-pub fn place(b: u32, m: &[u32], o: Own, t: Three) -> u32
-    requires width { Width b }
-    requires listed { Listed b m.now o }
-    ensures { Sole (listed_as b m.now o.descriptor.0 t.0 t.1 t.2) (Partition.threes b m.now o.descriptor.0) result }
-{
-    let n = o.threes;
-    let j = next_listed(b, m, o, t, 0);
-    if j == n {
-        return n;
-    }
-    if next_listed(b, m, o, t, j + 1) < n {
-        return n;
-    }
-    j
 }
 
 // Each of n threes was met once.
@@ -77,12 +58,5 @@ pub fn all_met(met: &[u8], n: u32) -> bool
     requires { n ≤ length met.now }
     ensures { result ≡ all (λ j. eqb (get_or met.now j 0) 1) (from n 0) }
 {
-    let mut j: u32 = 0;
-    while j < n {
-        if met[j as usize] != 1 {
-            return false;
-        }
-        j += 1;
-    }
-    true
+    met[..n as usize].iter().all(|x| *x == 1)
 }

@@ -4,68 +4,46 @@ ghost use Rattle.memory.specs.Geometry.{page_words, address, threes_for, least_p
 ghost use Rattle.memory.specs.Words.{word};
 ghost use Rattle.memory.specs.Partition;
 ghost use Rattle.soundness.specs.Test.{physical, header_test};
-ghost use Rattle.pages.specs.Width.{Width};
 
 use own_pages::{is_address, physical_address, zero_from};
-use pages::{PhysicalPage, edition_of, index, page_bytes, pages, read_word, threes_for};
+use pages::{
+    IndexWidth, PhysicalPage, edition_of, index, page_bytes, pages, read_word, threes_for,
+};
 
 // "N pages, 16 to 256", and the length is theirs. The most is as many as a page has bytes.
-pub fn size_test(b: u32, m: &[u32]) -> bool
-    requires { Width b }
+pub fn size_test(b: IndexWidth, m: &[u32]) -> bool
     ensures { result
-        ≡ (eqb (length m.now) (Partition.pages b m.now * page_words b)
-        && leb least_pages (Partition.pages b m.now)
-        && leb (Partition.pages b m.now) (most_pages b)) }
+        ≡ (eqb (length m.now) (Partition.pages b.bits m.now * page_words b.bits)
+        && leb least_pages (Partition.pages b.bits m.now)
+        && leb (Partition.pages b.bits m.now) (most_pages b.bits)) }
 {
     let n = pages(b, m);
-    if m.len() != index(b, PhysicalPage(n), 0) {
-        return false;
-    }
-    if n < 16 {
-        return false;
-    }
-    n <= page_bytes(b)
+    m.len() == index(b, PhysicalPage(n), 0) && 16 <= n && n <= page_bytes(b)
 }
 
 // "1 T; 2 byte offset of the root descriptor; 3 byte offset of the first root page; 4 physical address of the current partition's descriptor"
-pub fn offsets_test(b: u32, m: &[u32]) -> bool
-    requires { Width b }
+pub fn offsets_test(b: IndexWidth, m: &[u32]) -> bool
     ensures { result
-        ≡ (eqb (word b m.now 0 1) (threes_for b (Partition.pages b m.now))
-        && eqb (word b m.now 0 2) (address b 1)
-        && eqb (word b m.now 0 3) (address b (6 + 3 * threes_for b (Partition.pages b m.now)))
-        && physical b m.now (word b m.now 0 4)) }
+        ≡ (eqb (word b.bits m.now 0 1) (threes_for b.bits (Partition.pages b.bits m.now))
+        && eqb (word b.bits m.now 0 2) (address b.bits 1)
+        && eqb (word b.bits m.now 0 3) (address b.bits (6 + 3 * threes_for b.bits (Partition.pages b.bits m.now)))
+        && physical b.bits m.now (word b.bits m.now 0 4)) }
 {
     let t = threes_for(b, pages(b, m));
-    if read_word(b, m, PhysicalPage(0), 1) != t {
-        return false;
-    }
-    if !is_address(b, read_word(b, m, PhysicalPage(0), 2), PhysicalPage(1)) {
-        return false;
-    }
-    if !is_address(
-        b,
-        read_word(b, m, PhysicalPage(0), 3),
-        PhysicalPage(6 + 3 * t),
-    ) {
-        return false;
-    }
-    physical_address(b, m, read_word(b, m, PhysicalPage(0), 4))
+    let header = PhysicalPage(0);
+    read_word(b, m, header, 1) == t
+        && is_address(b, read_word(b, m, header, 2), PhysicalPage(1))
+        && is_address(b, read_word(b, m, header, 3), PhysicalPage(6 + 3 * t))
+        && physical_address(b, m, read_word(b, m, header, 4))
 }
 
-pub fn header_test(b: u32, m: &[u32]) -> bool
-    requires { Width b }
-    ensures { result ≡ header_test b m.now }
+#[tactic(auto, unfolding(soundness::specs::Test::header_test))]
+pub fn header_test(b: IndexWidth, m: &[u32]) -> bool
+    ensures { result ≡ header_test b.bits m.now }
 {
-    if !size_test(b, m) {
-        return false;
-    }
-    if !offsets_test(b, m) {
-        return false;
-    }
     // document 02, L4: "Page 0 word 5 is 0 for the old edition and 1 for this"
-    if read_word(b, m, PhysicalPage(0), 5) != edition_of(b) {
-        return false;
-    }
-    zero_from(b, m, PhysicalPage(0), 6)
+    size_test(b, m)
+        && offsets_test(b, m)
+        && read_word(b, m, PhysicalPage(0), 5) == edition_of(b)
+        && zero_from(b, m, PhysicalPage(0), 6)
 }

@@ -5,5 +5,6 @@ pub mod formatted;
 pub mod header;
 pub mod root;
 
+pub use formatted::Sizes;
 pub use header::header_test;
 pub use root::root_pages;

@@ -3,15 +3,13 @@ ghost use Rattle.std.specs.Prelude.{◌≡◌, ◌-◌, ◌≤◌, length, get_o
 ghost use Rattle.memory.specs.Counts.{child_at, child_of};
 ghost use Rattle.tally.specs.Search.{seek};
 ghost use Rattle.tally.specs.Rows.{child_words};
-ghost use Rattle.pages.specs.Width.{Width};
 
-use pages::{PhysicalPage, lent, mapping, page_of};
+use pages::{IndexWidth, PhysicalPage, lent, mapping, page_of};
 use tally::block_of;
 
 // A child of d stands at v: a mapping with shadow 1 word 1.
-pub fn child_at(b: u32, m: &[u32], d: PhysicalPage, v: u32) -> bool
-    requires { Width b }
-    ensures { result ≡ child_at b m.now d.0 v }
+pub fn child_at(b: IndexWidth, m: &[u32], d: PhysicalPage, v: u32) -> bool
+    ensures { result ≡ child_at b.bits m.now d.0 v }
 {
     if mapping(b, m, d, v) == 0 {
         return false;
@@ -20,9 +18,8 @@ pub fn child_at(b: u32, m: &[u32], d: PhysicalPage, v: u32) -> bool
 }
 
 // The page that is mapped there: the child's descriptor.
-pub fn child_of(b: u32, m: &[u32], d: PhysicalPage, v: u32) -> PhysicalPage
-    requires { Width b }
-    ensures { result.0 ≡ child_of b m.now d.0 v }
+pub fn child_of(b: IndexWidth, m: &[u32], d: PhysicalPage, v: u32) -> PhysicalPage
+    ensures { result.0 ≡ child_of b.bits m.now d.0 v }
 {
     page_of(b, mapping(b, m, d, v))
 }
@@ -42,6 +39,7 @@ pub fn next_child(pt: &[u32], s1: &[u32], n: usize, i: usize) -> usize
     requires { (n ≤ length pt.now) × (n ≤ length s1.now) }
     ensures { result ≡ seek (λ j. child_words (get_or pt.now j 0) (get_or s1.now j 0)) (n - i) i }
 {
+    // The step is eight places or one, by what stands there: no range has it.
     let mut j = i;
     while j < n {
         if block_of(s1, n, j, 1, 0) {

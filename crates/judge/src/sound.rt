@@ -5,20 +5,18 @@ ghost use Rattle.memory.specs.Partition;
 ghost use Rattle.soundness.specs.Test.{header_test, sound_test};
 ghost use Rattle.judging.specs.Quick.{quick_test};
 ghost use Rattle.tally.specs.Bits.{words_for};
-ghost use Rattle.pages.specs.Width.{Width};
 
 use crate::root::root_test;
 use crate::tree::{tree_test, under};
 use header::header_test;
-use pages::{current, pages, width};
+use pages::{IndexWidth, current, pages, width};
 use tally::mark_outside;
 
 // The rest of the judgement, once the header has passed. seen has a bit for each page, all 0.
-pub fn judged_with(b: u32, m: &[u32], seen: &mut [u32]) -> bool
-    requires width { Width b }
-    requires header { header_test b m.now ≡ true }
-    requires clear { seen.old ≡ replicate (words_for (Partition.pages b m.now)) 0 }
-    ensures { result ≡ quick_test b m.now }
+pub fn judged_with(b: IndexWidth, m: &[u32], seen: &mut [u32]) -> bool
+    requires header { header_test b.bits m.now ≡ true }
+    requires clear { seen.old ≡ replicate (words_for (Partition.pages b.bits m.now)) 0 }
+    ensures { result ≡ quick_test b.bits m.now }
 {
     if !root_test(b, m) {
         return false;

@@ -10,14 +10,13 @@ ghost use Rattle.soundness.specs.Test;
 ghost use Rattle.soundness.specs.Test.{own, judged};
 ghost use Rattle.judging.specs.Quick.{partition_test};
 ghost use Rattle.tally.specs.Bits.{marks_in, OutsideMarked};
-ghost use Rattle.pages.specs.Width.{Width};
 
 use crate::cells::cells_test;
 use crate::children::{child_at, child_of};
 use crate::cycle::judge_children;
 use crate::partitions::judge_alone;
 use own_pages::virtual_address;
-use pages::{PhysicalPage, parent, read_word, table_for};
+use pages::{IndexWidth, PhysicalPage, parent, read_word, table_for};
 
 // Each page from 1 on has its mark. Page 0 has none, so that its bit is passed over.
 pub fn all_marked(seen: &[u32]) -> bool
@@ -26,30 +25,21 @@ pub fn all_marked(seen: &[u32]) -> bool
     if seen.len() == 0 {
         return true;
     }
-    if seen[0] | 1 != 4294967295 {
+    if seen[0] | 1 != u32::MAX {
         return false;
     }
-    let mut i = 1;
-    while i < seen.len() {
-        if seen[i] != 4294967295 {
-            return false;
-        }
-        i += 1;
-    }
-    true
+    seen[1..].iter().all(|w| *w == u32::MAX)
 }
 
 // The root, with eight levels below it, as any partition is judged. judge_alone and cells_test have two callers so that each stays a function when it is
 // compiled: its part of the stack is then taken once, and not at each level of the tree, and its loops have the registers to themselves.
-pub fn judge_root(b: u32, m: &[u32], seen: &mut [u32]) -> bool
-    requires { Width b }
-    ensures { W.judge (children b m.now) (own b m.now) (partition_test b m.now) most_depth (marks_in seen.old) 1
+pub fn judge_root(b: IndexWidth, m: &[u32], seen: &mut [u32]) -> bool
+    ensures { W.judge (children b.bits m.now) (own b.bits m.now) (partition_test b.bits m.now) most_depth (marks_in seen.old) 1
         ≡ answer result (marks_in seen.new) }
 {
-    let t = judge_alone(b, m, seen, PhysicalPage(1));
-    if !t.passed {
+    let Some(t) = judge_alone(b, m, seen, PhysicalPage(1)) else {
         return false;
-    }
+    };
     if !cells_test(b, m, PhysicalPage(1), t.mapped) {
         return false;
     }
@@ -60,13 +50,12 @@ pub fn judge_root(b: u32, m: &[u32], seen: &mut [u32]) -> bool
 }
 
 // The tree below the root, walked once: every partition passes its test, and every page is used once. No page has its mark at first.
-pub fn tree_test(b: u32, m: &[u32], seen: &mut [u32]) -> bool
-    requires width { Width b }
-    requires outside { OutsideMarked (pages b m.now) seen.old }
+pub fn tree_test(b: IndexWidth, m: &[u32], seen: &mut [u32]) -> bool
+    requires outside { OutsideMarked (pages b.bits m.now) seen.old }
     ensures { result
-        ≡ judged b m.now
-        (W.judge (children b m.now) (own b m.now) (partition_test b m.now) most_depth
-        (take (pages b m.now) (marks_in seen.old)) 1) }
+        ≡ judged b.bits m.now
+        (W.judge (children b.bits m.now) (own b.bits m.now) (partition_test b.bits m.now) most_depth
+        (take (pages b.bits m.now) (marks_in seen.old)) 1) }
 {
     if !judge_root(b, m, seen) {
         return false;
@@ -75,9 +64,8 @@ pub fn tree_test(b: u32, m: &[u32], seen: &mut [u32]) -> bool
 }
 
 // c is the child that stands where its first word says, in the partition that it says is its parent.
-pub fn placed(b: u32, m: &[u32], c: PhysicalPage) -> bool
-    requires { Width b }
-    ensures { result ≡ Test.placed b m.now c.0 }
+pub fn placed(b: IndexWidth, m: &[u32], c: PhysicalPage) -> bool
+    ensures { result ≡ Test.placed b.bits m.now c.0 }
 {
     let p = parent(b, m, c);
     let v = read_word(b, m, c, 0);
@@ -94,21 +82,18 @@ pub fn placed(b: u32, m: &[u32], c: PhysicalPage) -> bool
 }
 
 // "current is in it": up by the parents' words as far as the root, with a look back down at each step.
-pub fn under(b: u32, m: &[u32], c: PhysicalPage) -> bool
-    requires { Width b }
-    ensures { result ≡ Test.under b m.now most_depth c.0 }
+pub fn under(b: IndexWidth, m: &[u32], c: PhysicalPage) -> bool
+    ensures { result ≡ Test.under b.bits m.now most_depth c.0 }
 {
-    let mut p = c.0;
-    let mut left: u32 = 8;
-    while 0 < left {
-        if p == 1 {
+    let mut p = c;
+    for _k in 0u32..8 {
+        if p.0 == 1 {
             return true;
         }
-        if !placed(b, m, PhysicalPage(p)) {
+        if !placed(b, m, p) {
             return false;
         }
-        p = parent(b, m, PhysicalPage(p)).0;
-        left -= 1;
+        p = parent(b, m, p);
     }
-    p == 1
+    p.0 == 1
 }

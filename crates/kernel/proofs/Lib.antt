@@ -2,6 +2,5 @@ pub mod Words
 pub mod Numbered
 pub mod Places
 pub mod Replied
-pub mod Fitting
 pub mod Running
 pub mod Judged

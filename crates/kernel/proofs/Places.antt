@@ -56,22 +56,6 @@ pub resume-places : (n : ℕ) (a : ℕ → ℕ) → n ≡ 15 → places (numbere
 unfolding numbered context_call resumption
 resume-places n a e = rw e refl
 
-pub number-places : (n : ℕ) (a : ℕ → ℕ) → n ≤ 15 → places (numbered n a) ≡ cond (eqb n 15) 12 1
-number-places n a h = pick (eqb n 15) refl
-  where
-    pick : (t : Bool) → eqb n 15 ≡ t → places (numbered n a) ≡ cond t 12 1
-    pick true e = resume-places n a (eqb-true n 15 e)
-    pick false e = single-places n a (omega (arith, eqb-false n 15 e))
-
--- ---- every answer takes a place
-
-some-place : (r : Option (ℕ × ℕ)) → 1 ≤ places_by r
-some-place none = omega arith
-some-place (some x) = omega arith
-
-pub has-place : (c : Call) → 1 ≤ places c
-has-place c = some-place (resumption c)
-
 -- ---- by the words that are answered beside
 
 module _ (b : ℕ) (m : List ℕ) where

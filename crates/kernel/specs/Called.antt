@@ -1,18 +1,18 @@
 -- A call by its number: what it answers and leaves, also where no call has the number. Assumes nothing.
-use Rattle.std.specs.Prelude.{List, cond, ℕ, leb, get_or}
+use Rattle.std.specs.Prelude.{Result, Some, None, List, cond, ℕ, leb, get_or}
+use Rattle.std.specs.Prelude as Std
 use Rattle.std.proofs.Math.Option.{Option, none, some}
 use Rattle.rules.specs.Row.{Answer}
 use Rattle.rules.specs.Call.{Call}
 use Rattle.rules.specs.Editions.{answer, after}
 use Rattle.answers.specs.Said.{said}
-use Rattle.kernel.specs.declared.numbers.Called.{Called}
-use Rattle.kernel.specs.declared.numbers.Called.TheVariants.{Answered, Unknown}
+use Rattle.answers.specs.declared.refusals.Refusal.{Refusal}
 use Rattle.kernel.specs.Sequence.{numbered}
 
 -- what an answer of the code stands for: a call's answer, or none where no call has the number
-abbrev pub called : Called → Option Answer
-called (Answered a) = some (said a)
-called Unknown = none
+abbrev pub called : Std.Option (Result ℕ Refusal) → Option Answer
+called (Some a) = some (said a)
+called None = none
 
 module _ (m : List ℕ) (n : ℕ) (a : List ℕ) where
   -- the call of number n with arguments a

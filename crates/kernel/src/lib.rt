@@ -10,7 +10,7 @@ pub use calls::{
     add_vaddr, collect, create_partition, delete_partition, dispatch, enter, format, leave, load,
     mapped_in_child, notify, page_count, prepare, remove_vaddr, resume, store,
 };
-pub use numbers::{Called, by_number};
+pub use numbers::by_number;
 pub use resuming::Resumed;
 pub use sequences::run;
 pub use verdicts::verdict;

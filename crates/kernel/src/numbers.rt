@@ -5,19 +5,12 @@ ghost use Rattle.kernel.specs.Called.{called, called_answer, called_after};
 use answers::Answer;
 use calls::numbered_call;
 
-// What a call by its number answers, or that no call has the number.
-#[derive(Clone, Copy)]
-pub enum Called {
-    Answered(Answer),
-    Unknown,
-}
-
-// The call of number n: 0 is format, 1 to 12 are document 01's, and no other number is known. a holds its arguments; what is past them changes nothing.
-pub fn by_number(m: &mut [u32], n: u32, a: [u32; 5]) -> Called
+// The call of number n: 0 is format, 1 to 12 are document 01's, and no other number is known: None. a holds its arguments; what is past them changes nothing.
+pub fn by_number(m: &mut [u32], n: u32, a: [u32; 5]) -> Option<Answer>
     ensures { (called result ≡ called_answer m.old n a) × (m.new ≡ called_after m.old n a) }
 {
     if n > 12 {
-        return Called::Unknown;
+        return None;
     }
-    Called::Answered(numbered_call(m, n, a))
+    Some(numbered_call(m, n, a))
 }

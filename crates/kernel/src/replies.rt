@@ -10,19 +10,15 @@ ghost use Rattle.kernel.specs.Room.{reply_of, places};
 use answers::{Answer, pack};
 use calls::numbered_call;
 use common::write_words;
+use resuming::Resumed;
+use std::array;
 
 // The five words behind word i: no call of document 01 has more arguments.
 fn arguments(ws: &[u32], i: usize) -> [u32; 5]
     requires { i < length ws.now }
     ensures { result ≡ five ws.now i }
 {
-    [
-        pages::read(ws, i + 1),
-        pages::read(ws, i + 2),
-        pages::read(ws, i + 3),
-        pages::read(ws, i + 4),
-        pages::read(ws, i + 5),
-    ]
+    array::from_fn(|j| pages::read(ws, i + 1 + j))
 }
 
 // The registers of the notify at word i, behind target, eip and eflags.
@@ -30,16 +26,7 @@ fn registers(ws: &[u32], i: usize) -> [u32; 8]
     requires { i < length ws.now }
     ensures { result ≡ eight ws.now i }
 {
-    [
-        pages::read(ws, i + 4),
-        pages::read(ws, i + 5),
-        pages::read(ws, i + 6),
-        pages::read(ws, i + 7),
-        pages::read(ws, i + 8),
-        pages::read(ws, i + 9),
-        pages::read(ws, i + 10),
-        pages::read(ws, i + 11),
-    ]
+    array::from_fn(|j| pages::read(ws, i + 4 + j))
 }
 
 // The call that stands whole at word i and is no resume.
@@ -51,13 +38,11 @@ fn single(m: &mut [u32], ws: &[u32], i: usize) -> Answer
 {
     let n = pages::read(ws, i);
     let a = arguments(ws, i);
-    if n <= 12 {
-        return numbered_call(m, n, a);
+    match n {
+        0..=12 => numbered_call(m, n, a),
+        13 => calls::notify(m, a[0], a[1], a[2], registers(ws, i)),
+        _ => calls::dispatch(m, a[0]),
     }
-    if n == 13 {
-        return calls::notify(m, a[0], a[1], a[2], registers(ws, i));
-    }
-    calls::dispatch(m, a[0])
 }
 
 // The call that stands whole at word i, its answer written from place p on. Answers where the next answer begins.
@@ -72,10 +57,12 @@ pub fn call(m: &mut [u32], ws: &[u32], i: usize, answers: &mut [u64], p: usize) 
         answers[p] = pack(single(m, ws, i));
         return p + 1;
     }
-    let r = calls::resume(m, pages::read(ws, i + 1), pages::read(ws, i + 2));
-    let a = r.answer;
-    let words = r.words;
-    answers[p] = pack(a);
+    let Resumed { answer, words } = calls::resume(
+        m,
+        pages::read(ws, i + 1),
+        pages::read(ws, i + 2),
+    );
+    answers[p] = pack(answer);
     write_words(answers, p + 1, &words);
     p + 12
 }

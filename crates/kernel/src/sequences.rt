@@ -1,40 +1,47 @@
 // The run of a sequence of calls. Each call is its number and its arguments, one word each.
-ghost use Rattle.std.specs.Prelude.{◌≡◌, cond, ◌≤◌, eqb, length};
-ghost use Rattle.kernel.specs.Room.{next_at};
+ghost use Rattle.rules.specs.Call.{Call};
+ghost use Rattle.rules.specs.Editions.{after};
+ghost use Rattle.kernel.specs.Sequence.{counts, numbered};
+ghost use Rattle.kernel.specs.Room.{places, reply_of};
 ghost use Rattle.kernel.specs.Ran.{Ran};
 
-use crate::replies::call;
+use crate::replies;
+use common::sequences;
+use common::sequences::Kernel;
 
 // "How many arguments each call has is a fixed table": format's number is 0, and it has the edition. Notify is 13, dispatch 14, resume 15.
 const COUNTS: [usize; 16] = [1, 5, 1, 4, 2, 2, 3, 2, 1, 1, 0, 1, 2, 11, 1, 2];
 
-// How many places the answer of a call takes: resume's has eleven words beside.
-fn places(n: usize) -> usize
-    ensures { result ≡ cond (eqb n 15) 12 1 }
-{
-    if n == 15 { 12 } else { 1 }
-}
+// The page kernel, as the run of a sequence sees it.
+struct Pages;
 
-// Where the words of the call at word i end, or 0 where no whole call stands there or its answer does not fit in `room` places.
-fn end(ws: &[u32], i: usize, room: usize) -> usize
-    requires { i ≤ length ws.now }
-    ensures { result ≡ next_at ws.now i room }
-{
-    if i >= ws.len() {
-        return 0;
+impl Kernel for Pages {
+    ghost Call = { Call };
+
+    ghost counts = { counts };
+
+    ghost most = { 15 };
+
+    ghost numbered = { numbered };
+
+    ghost places = { places };
+
+    ghost reply_of = { reply_of };
+
+    ghost after = { after };
+
+    fn arguments(n: u32) -> Option<usize> {
+        COUNTS.get(n as usize).copied()
     }
-    let n = ws[i] as usize;
-    if n > 15 {
-        return 0;
+
+    // Resume's answer has eleven words beside.
+    fn places(n: u32) -> usize {
+        if n == 15 { 12 } else { 1 }
     }
-    let k = COUNTS[n];
-    if ws.len() - i <= k {
-        return 0;
+
+    fn call(m: &mut [u32], ws: &[u32], i: usize, answers: &mut [u64], p: usize) -> usize {
+        replies::call(m, ws, i, answers, p)
     }
-    if room < places(n) {
-        return 0;
-    }
-    i + 1 + k
 }
 
 // Runs the calls in order and writes the answer of each, as many as there is room for: the packed answer, and behind that of a resume its eleven words.
@@ -42,16 +49,5 @@ fn end(ws: &[u32], i: usize, room: usize) -> usize
 pub fn run(m: &mut [u32], calls: &[u32], answers: &mut [u64]) -> usize
     ensures { Ran calls.now m.old m.new answers.old answers.new result }
 {
-    let mut n = 0;
-    let mut i = 0;
-    let mut p = 0;
-    loop {
-        let e = end(calls, i, answers.len() - p);
-        if e == 0 {
-            return n;
-        }
-        p = call(m, calls, i, answers, p);
-        i = e;
-        n += 1;
-    }
+    sequences::run::<Pages>(m, calls, answers)
 }

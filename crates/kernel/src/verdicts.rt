@@ -4,14 +4,14 @@ ghost use Rattle.rules.specs.Row.{reply};
 ghost use Rattle.answers.specs.Said.{said};
 ghost use Rattle.kernel.specs.Verdict.{verdict};
 
-use answers::Answer;
+use answers::{Answer, Refusal};
 
-// Done with word 0 where the memory is sound, else 1 DAMAGED. No word changes.
+// One function for both kernels would be as long: it would take the judge. Done with word 0 where the memory is sound, else 1 DAMAGED. No word changes.
 pub fn verdict(m: &[u32]) -> Answer
     ensures { said result ≡ reply (verdict m.now) 0 }
 {
     if judge::is_sound(m) {
-        return Answer::Done(0);
+        return Ok(0);
     }
-    Answer::Damaged
+    Err(Refusal::Damaged)
 }

@@ -1,76 +1,47 @@
 // The five addresses of a new child, tested as one group and made into its descriptor.
-ghost use Rattle.std.specs.Prelude.{◌≡◌, ◌≤◌, eqb, length, drop};
+ghost use Rattle.std.specs.Prelude.{◌≡◌};
 ghost use Rattle.walk.specs.Finite.{any};
 ghost use Rattle.rules.specs.Conditions;
 ghost use Rattle.rules.specs.Conditions.{not_in_hand, lacks};
-ghost use Rattle.pages.specs.Width.{Width};
 ghost use Rattle.making.specs.Group.{descriptor};
 
-use pages::PhysicalPage;
-
-// Whether x is among the addresses from place i on.
-fn again(vs: &[u32], from: usize, x: u32) -> bool
-    requires { from ≤ length vs.now }
-    ensures { result ≡ any (eqb x) (drop from vs.now) }
-{
-    let mut i = from;
-    while i < vs.len() {
-        if x == vs[i] {
-            return true;
-        }
-        i += 1;
-    }
-    false
-}
+use pages::{IndexWidth, PhysicalPage};
 
 // 4: "two of the five equal". Each is compared with each that stands behind it.
 pub fn twice(vs: &[u32]) -> bool
     ensures { result ≡ Conditions.twice vs.now }
 {
-    let mut i = 0;
-    while i < vs.len() {
-        if again(vs, i + 1, vs[i]) {
+    for (i, v) in vs.iter().enumerate() {
+        if vs[i + 1..].contains(v) {
             return true;
         }
-        i += 1;
     }
     false
 }
 
 // 7, over all the addresses vs.
-pub fn any_not_in_hand(b: u32, m: &[u32], vs: &[u32]) -> bool
-    requires { Width b }
-    ensures { result ≡ any (not_in_hand b m.now) vs.now }
+pub fn any_not_in_hand(b: IndexWidth, m: &[u32], vs: &[u32]) -> bool
+    ensures { result ≡ any (not_in_hand b.bits m.now) vs.now }
 {
-    let mut i = 0;
-    while i < vs.len() {
-        if moves::not_in_hand(b, m, vs[i]) {
-            return true;
-        }
-        i += 1;
-    }
-    false
+    vs.iter().any(|v| moves::not_in_hand(b, m, *v))
 }
 
 // 6, of the rights r over all the addresses vs.
-pub fn any_lacks(b: u32, r: u32, m: &[u32], vs: &[u32]) -> bool
-    requires { Width b }
-    ensures { result ≡ any (lacks b r m.now) vs.now }
+pub fn any_lacks(b: IndexWidth, r: u32, m: &[u32], vs: &[u32]) -> bool
+    ensures { result ≡ any (lacks b.bits r m.now) vs.now }
 {
-    let mut i = 0;
-    while i < vs.len() {
-        if moves::lacks(b, r, m, vs[i]) {
-            return true;
-        }
-        i += 1;
-    }
-    false
+    vs.iter().any(|v| moves::lacks(b, r, m, *v))
 }
 
 // The twelve words of the descriptor of a new child of d, whose own address is own.
-pub fn descriptor_words(b: u32, m: &[u32], d: PhysicalPage, own: u32, five: [u32; 5]) -> [u32; 12]
-    requires { Width b }
-    ensures { result ≡ descriptor b m.now d.0 own five }
+pub fn descriptor_words(
+    b: IndexWidth,
+    m: &[u32],
+    d: PhysicalPage,
+    own: u32,
+    five: [u32; 5],
+) -> [u32; 12]
+    ensures { result ≡ descriptor b.bits m.now d.0 own five }
 {
     let a0 = moves::frame_at(b, m, d, five[0]);
     let a1 = moves::frame_at(b, m, d, five[1]);

@@ -1,19 +1,12 @@
--- A test over a group of addresses, turn by turn, as loops take them. Assumes nothing.
-use mathlib.Core.Path.{◌≡◌}
-use mathlib.Core.Bool.{Bool, true, false}
-use mathlib.Core.List.{List}
-use Prim.Native.Nat.{ℕ, ◌+◌, ◌≤◌, ◌<◌}
-use native.Mathlib.Numerals.{add-one}
-use lib.ListN.{length, get_or, drop, drop_of_length-le}
-use lib.Seq.{drop-cons}
+-- A test over a group of addresses, as the code makes it and as the specifications write it. Assumes nothing.
+use mathlib.Core.Path.{◌≡◌, refl, ap}
+use mathlib.Core.Bool.{Bool, ◌||◌}
+use mathlib.Core.List.{List, [], ◌∷◌}
+use Prim.Native.Nat.{ℕ}
+use Rattle.std.specs.List.{list_any}
 use Rattle.walk.specs.Finite.{any}
 
-module _ (f : ℕ → Bool) (vs : List ℕ) (i : ℕ) where
-  pub any_here : i < length vs → (t : Bool) → t ≡ f (get_or vs i 0) → t ≡ true → any f (drop i vs) ≡ true
-  any_here h t e z = rw (drop-cons vs i 0, ← e, z)
-
-  pub any_next : i < length vs → (t : Bool) → t ≡ f (get_or vs i 0) → t ≡ false → any f (drop i vs) ≡ any f (drop (i + 1) vs)
-  any_next h t e z = rw (add-one, drop-cons vs i 0, ← e, z)
-
-  pub any-end : length vs ≤ i → any f (drop i vs) ≡ false
-  any-end h = rw (drop_of_length-le vs h)
+-- what the iterator's `any` answers
+pub any_is : (f : ℕ → Bool) (xs : List ℕ) → any f xs ≡ list_any f xs
+any_is f [] = refl
+any_is f (x ∷ xs) = ap (λ (t : Bool). f x || t) (any_is f xs)

@@ -1,6 +1,5 @@
 pub mod Walks
 pub mod Groups
-pub mod Tests
 pub mod Whole
 pub mod Parts
 pub mod Child

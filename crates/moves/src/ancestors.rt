@@ -1,20 +1,17 @@
 // The walk from a partition up to the root.
 ghost use Rattle.std.specs.Prelude.{◌≡◌, ◌<◌};
 ghost use Rattle.rules.specs.Moves;
-ghost use Rattle.pages.specs.Width.{Width};
 
-use pages::PhysicalPage;
+use pages::{IndexWidth, PhysicalPage};
 
 // Accessible is set (bit 1) or cleared (bit 0) "in the caller and each ancestor, following shadow 2".
-pub fn mark(b: u32, m: &mut [u32], bit: u32, caller: PhysicalPage, a: u32)
-    requires width { Width b }
+pub fn mark(b: IndexWidth, m: &mut [u32], bit: u32, caller: PhysicalPage, a: u32)
     requires bit { bit < 2 }
-    ensures { m.new ≡ Moves.mark b 9 bit m.old caller.0 a }
+    ensures { m.new ≡ Moves.mark b.bits 9 bit m.old caller.0 a }
 {
     let mut d = caller;
     let mut v = a;
-    let mut left: u32 = 9;
-    while left > 0 {
+    for _ in 0..9u32 {
         let w = pages::mapping(b, m, d, v);
         let up = pages::above(b, m, d, v);
         let par = pages::parent(b, m, d);
@@ -24,24 +21,20 @@ pub fn mark(b: u32, m: &mut [u32], bit: u32, caller: PhysicalPage, a: u32)
         }
         d = par;
         v = up;
-        left -= 1;
     }
 }
 
 // How far partition p is below the root, counted up to n.
-pub fn depth(b: u32, n: u32, m: &[u32], p: PhysicalPage) -> u32
-    requires { Width b }
-    ensures { result ≡ Moves.depth b n m.now p.0 }
+pub fn depth(b: IndexWidth, n: u32, m: &[u32], p: PhysicalPage) -> u32
+    ensures { result ≡ Moves.depth b.bits n m.now p.0 }
 {
-    let mut k = 0;
     let mut d = p;
-    while k < n {
+    for k in 0..n {
         let par = pages::parent(b, m, d);
         if par.0 == 0 {
             return k;
         }
         d = par;
-        k += 1;
     }
-    k
+    n
 }

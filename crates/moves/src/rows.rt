@@ -1,39 +1,43 @@
-// The refusals with which several calls' rows begin. Where none is given the answer is 0.
-ghost use Rattle.std.specs.Prelude.{◌≡◌, ◌≤◌};
+// The refusals with which several calls' rows begin.
+ghost use Rattle.std.specs.Prelude.{◌≡◌};
 ghost use Rattle.soundness.specs.Test.{sound_test};
 ghost use Rattle.rules.specs.Row.{first};
-ghost use Rattle.pages.specs.Width.{Width};
+ghost use Rattle.answers.specs.Said.{refusal_in};
 ghost use Rattle.moves.specs.Rows.{page_checks, child_checks};
 
 use crate::conditions::{any_bad, no_child};
+use answers::Refusal;
+use pages::IndexWidth;
 
-// 1 3, over the page addresses vs.
-pub fn page_refusal(b: u32, m: &[u32], good: bool, vs: &[u32]) -> u32
-    requires width { Width b }
-    requires judged { good ≡ sound_test b m.now }
-    ensures { (result ≡ first (page_checks b m.now vs.now)) × (result ≤ 16) }
+// 1 3, over the page addresses vs. `good` is what the judge says of m, here and in each call: a struct with that answer would still need a clause that says of
+// which memory it is.
+pub fn page_refusal(b: IndexWidth, m: &[u32], good: bool, vs: &[u32]) -> Result<(), Refusal>
+    requires judged { good ≡ sound_test b.bits m.now }
+    ensures { refusal_in result ≡ first (page_checks b.bits m.now vs.now) }
 {
     if !good {
-        return 1;
+        return Err(Refusal::Damaged);
     }
     if any_bad(b, vs) {
-        return 3;
+        return Err(Refusal::Address);
     }
-    0
+    Ok(())
 }
 
 // 1 3 5, over the page addresses vs and the child at c.
-pub fn child_refusal(b: u32, m: &[u32], good: bool, vs: &[u32], c: u32) -> u32
-    requires width { Width b }
-    requires judged { good ≡ sound_test b m.now }
-    ensures { (result ≡ first (child_checks b m.now vs.now c)) × (result ≤ 16) }
+pub fn child_refusal(
+    b: IndexWidth,
+    m: &[u32],
+    good: bool,
+    vs: &[u32],
+    c: u32,
+) -> Result<(), Refusal>
+    requires judged { good ≡ sound_test b.bits m.now }
+    ensures { refusal_in result ≡ first (child_checks b.bits m.now vs.now c) }
 {
-    let n = page_refusal(b, m, good, vs);
-    if n != 0 {
-        return n;
-    }
+    page_refusal(b, m, good, vs)?;
     if no_child(b, m, c) {
-        return 5;
+        return Err(Refusal::Child);
     }
-    0
+    Ok(())
 }

@@ -3,26 +3,25 @@ ghost use Rattle.std.specs.Prelude.{◌≡◌, ◌+◌, ◌≤◌, length, take,
 ghost use Rattle.memory.specs.Geometry.{address, page_of};
 ghost use Rattle.memory.specs.Words.{page, overwrite};
 ghost use Rattle.memory.specs.Partition.{mapping};
-ghost use Rattle.pages.specs.Width.{Width};
 
-use pages::PhysicalPage;
+use pages::{IndexWidth, PhysicalPage};
 
 // Saves n words of page p, from word i on, at the start of a buffer. The answer is how many of them there are.
-pub fn save(b: u32, m: &[u32], p: PhysicalPage, i: u32, n: u32, buffer: &mut [u32]) -> usize
-    requires width { Width b }
+pub fn save(b: IndexWidth, m: &[u32], p: PhysicalPage, i: u32, n: u32, buffer: &mut [u32]) -> usize
     requires fits { n + i ≤ 64 }
-    ensures { (buffer.new ≡ overwrite buffer.old 0 (take n (drop i (page b m.now p.0)))) × (result ≡ length (take n (drop i (page b m.now p.0)))) × (result ≤ n) }
+    ensures { (buffer.new ≡ overwrite buffer.old 0 (take n (drop i (page b.bits m.now p.0))))
+        × (result ≡ length (take n (drop i (page b.bits m.now p.0))))
+        × (result ≤ n) }
 {
-    let a = pages::least(pages::index(b, p, i), m.len());
-    let e = pages::least(pages::index(b, p, i + n), m.len());
+    let a = pages::index(b, p, i).min(m.len());
+    let e = pages::index(b, p, i + n).min(m.len());
     pages::copy(buffer, &m[a..e]);
     e - a
 }
 
 // The physical address of the page at address a of partition d.
-pub fn frame_at(b: u32, m: &[u32], d: PhysicalPage, a: u32) -> u32
-    requires { Width b }
-    ensures { (result ≡ address b (page_of b (mapping b m.now d.0 a))) × (result + 256 ≤ 4294967296) }
+pub fn frame_at(b: IndexWidth, m: &[u32], d: PhysicalPage, a: u32) -> u32
+    ensures { (result ≡ address b.bits (page_of b.bits (mapping b.bits m.now d.0 a))) × (result + 256 ≤ 4294967296) }
 {
     pages::frame(b, pages::mapping(b, m, d, a))
 }

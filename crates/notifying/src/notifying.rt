@@ -9,31 +9,26 @@ ghost use Rattle.rules.specs.Conditions.{toward};
 ghost use Rattle.rules.specs.Effects;
 ghost use Rattle.rules.specs.Effects.{effect};
 ghost use Rattle.rules.specs.Calls.{answer, after};
-ghost use Rattle.pages.specs.Width.{Width};
-ghost use Rattle.answers.specs.Said.{said, Told};
+ghost use Rattle.answers.specs.Said.{refusal_in, said};
 ghost use Rattle.contexts.specs.Registers.{registers_of, notifying};
 
-use answers::{Answer, context_reply};
+use answers::{Answer, Refusal};
 use contexts::slot_pages::{no_slots, slot_page};
-use contexts::slots::{TO_CHILD_SLOT, TO_PARENT_SLOT, save_in};
+use contexts::slots::{Slot, TO_CHILD_SLOT, TO_PARENT_SLOT};
 use contexts::switching::{caller_flag, switch_to};
 use contexts::targets::{target_word, toward_refusal};
-use pages::PhysicalPage;
+use pages::{IndexWidth, PhysicalPage};
 
 // 1 24 3, 5 or 14, and 20 of the caller.
-fn notify_refusal(b: u32, m: &[u32], good: bool, t: u32) -> u32
-    requires width { Width b }
-    requires judged { good ≡ sound_test b m.now }
-    ensures { (result ≡ first (toward b m.now t ++ (SLOT-PAGE when no_slots b m.now (current b m.now) ∷ []))) × Told result }
+fn notify_refusal(b: IndexWidth, m: &[u32], good: bool, t: u32) -> Result<(), Refusal>
+    requires judged { good ≡ sound_test b.bits m.now }
+    ensures { refusal_in result ≡ first (toward b.bits m.now t ++ (SLOT-PAGE when no_slots b.bits m.now (current b.bits m.now) ∷ [])) }
 {
-    let n = toward_refusal(b, m, good, t);
-    if n != 0 {
-        return n;
-    }
+    toward_refusal(b, m, good, t)?;
     if no_slots(b, m, pages::current(b, m)) {
-        return 20;
+        return Err(Refusal::SlotPage);
     }
-    0
+    Ok(())
 }
 
 // The caller's slot, by the target t.
@@ -48,21 +43,22 @@ fn slot_toward(t: u32) -> u32
 }
 
 // "saves them with the caller's old flag and valid 1": the words in the order of a slot.
-fn save(b: u32, m: &mut [u32], d: PhysicalPage, t: u32, eip: u32, eflags: u32, rs: [u32; 8])
-    requires { Width b }
-    ensures { m.new ≡ Effects.save b m.old d.0 t eip eflags (registers_of rs) }
+fn save(b: IndexWidth, m: &mut [u32], d: PhysicalPage, t: u32, eip: u32, eflags: u32, rs: [u32; 8])
+    ensures { m.new ≡ Effects.save b.bits m.old d.0 t eip eflags (registers_of rs) }
 {
     let flag = pages::flag(b, m, d);
-    let p = slot_page(b, m, d);
+    let slot = Slot {
+        page: slot_page(b, m, d),
+        number: slot_toward(t),
+    };
     let ws = [
         eip, flag, eflags, rs[0], rs[1], rs[2], rs[3], rs[4], rs[5], rs[6], rs[7], 1,
     ];
-    save_in(b, m, p, slot_toward(t), &ws);
+    slot.save(b, m, &ws);
 }
 
-fn notify_effect(b: u32, m: &mut [u32], t: u32, eip: u32, eflags: u32, rs: [u32; 8])
-    requires { Width b }
-    ensures { m.new ≡ effect b m.old (notifying t eip eflags rs) }
+fn notify_effect(b: IndexWidth, m: &mut [u32], t: u32, eip: u32, eflags: u32, rs: [u32; 8])
+    ensures { m.new ≡ effect b.bits m.old (notifying t eip eflags rs) }
 {
     let d = pages::current(b, m);
     let w = target_word(b, m, t);
@@ -71,9 +67,9 @@ fn notify_effect(b: u32, m: &mut [u32], t: u32, eip: u32, eflags: u32, rs: [u32;
     switch_to(b, m, d, w, x, 1);
 }
 
-// The target t becomes current, with flag 1; rs are the eight registers.
+// The target t becomes current, with flag 1; rs are the eight registers. eip, eflags and rs are no struct, as `kernel::notify` takes them one by one.
 pub fn notify(
-    b: u32,
+    b: IndexWidth,
     m: &mut [u32],
     good: bool,
     t: u32,
@@ -81,15 +77,11 @@ pub fn notify(
     eflags: u32,
     rs: [u32; 8],
 ) -> Answer
-    requires width { Width b }
-    requires judged { good ≡ sound_test b m.old }
-    ensures { (said result ≡ answer b m.old (notifying t eip eflags rs))
-        × (m.new ≡ after b m.old (notifying t eip eflags rs)) }
+    requires judged { good ≡ sound_test b.bits m.old }
+    ensures { (said result ≡ answer b.bits m.old (notifying t eip eflags rs))
+        × (m.new ≡ after b.bits m.old (notifying t eip eflags rs)) }
 {
-    let n = notify_refusal(b, m, good, t);
-    if n != 0 {
-        return context_reply(n);
-    }
+    notify_refusal(b, m, good, t)?;
     notify_effect(b, m, t, eip, eflags, rs);
-    context_reply(0)
+    Ok(0)
 }

@@ -1,5 +1,5 @@
 -- What the code asks at one index or of one pair, put together from the tests of the crate soundness. Assumes nothing.
-use Rattle.std.specs.Prelude.{◌≡◌, List, Bool, true, false, cond, not, ◌&&◌, ◌||◌, ℕ, ◌+◌, ◌-◌, ◌*◌, ◌≤◌, ◌<◌, ltb, eqb, length, get_or}
+use Rattle.std.specs.Prelude.{◌≡◌, List, Bool, true, false, cond, not, ◌&&◌, ◌||◌, ℕ, ◌+◌, ◌-◌, ◌*◌, ◌≤◌, ◌<◌, eqb, length, get_or}
 use Rattle.walk.specs.Finite.{from, all, keep, once}
 use Rattle.memory.specs.Geometry.{page_words}
 use Rattle.memory.specs.Words.{word}
@@ -45,15 +45,16 @@ pub record Skipped (b : ℕ) (m : List ℕ) (d i r : ℕ) : Type 0 where
   pub high : r ≤ page_words b
   pub empty : all (no_tables b m d) (from (r - i) i) ≡ true
 
--- r is the first number from i on and below n at which f holds, or n
-pub record First (f : ℕ → Bool) (n i r : ℕ) : Type 0 where
-  pub low : i ≤ r
-  pub high : r ≤ n
-  pub passed : (k : ℕ) → i ≤ k → k < r → f k ≡ false
-  pub found : r < n → f r ≡ true
+-- f holds at no number from i on and below n
+abbrev pub Never : (ℕ → Bool) → ℕ → ℕ → Type 0
+Never f n i = (k : ℕ) → i ≤ k → k < n → f k ≡ false
 
--- r is the one number below n at which f holds, or n where it holds at none or more
+-- r is the first number from i on and below n at which f holds
+abbrev pub First : (ℕ → Bool) → ℕ → ℕ → ℕ → Type 0
+First f n i r = (i ≤ r) × (r < n) × (f r ≡ true) × Never f r i
+
+-- r is the one number below n at which f holds
 pub record Sole (f : ℕ → Bool) (n r : ℕ) : Type 0 where
-  pub high : r ≤ n
-  pub holds : r < n → f r ≡ true
-  pub sole : once f (from n 0) ≡ ltb r n
+  pub high : r < n
+  pub holds : f r ≡ true
+  pub sole : once f (from n 0) ≡ true

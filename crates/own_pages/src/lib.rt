@@ -8,6 +8,6 @@ pub mod roots;
 pub mod words;
 
 pub use addresses::{in_memory, is_address, memory_end, physical_address, virtual_address};
-pub use own::{Own, Three, list_at, look_up, words_at};
-pub use pairs::{list_pair, pairs_form, pairs_shut};
+pub use own::{Own, Three};
+pub use pairs::{list_pair, pairs_form};
 pub use words::{zero_from, zeros};

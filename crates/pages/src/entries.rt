@@ -3,15 +3,14 @@ ghost use Rattle.std.specs.Prelude.{◌≡◌, ◌&&◌, ◌<◌, eqb};
 ghost use Rattle.memory.specs.Geometry.{page_of};
 ghost use Rattle.memory.specs.Entry;
 ghost use Rattle.memory.specs.Entry.{entry, holds};
-ghost use Rattle.pages.specs.Width.{Width};
 
 use crate::addresses::frame;
+use crate::widths::IndexWidth;
 
 // "physical address + 1 + 2·accessible + 4·rights", of the page that w names.
-pub fn entry_of(b: u32, w: u32, acc: u32, rights: u32) -> u32
-    requires width { Width b }
+pub fn entry_of(b: IndexWidth, w: u32, acc: u32, rights: u32) -> u32
     requires flags { (acc < 2) × (rights < 8) }
-    ensures { result ≡ entry b (page_of b w) acc rights }
+    ensures { result ≡ entry b.bits (page_of b.bits w) acc rights }
 {
     frame(b, w) + 1 + 2 * acc + 4 * rights
 }

@@ -16,7 +16,7 @@ pub use addresses::{
     PhysicalPage, VirtualPage, address, address_of, bad_address, bad_page, directory_index, frame,
     page_of, place, table_index, virtual_page,
 };
-pub use common::{clear, copy, least, put_words, read, write};
+pub use common::{clear, copy, put_words, read, write};
 pub use counts::count_of;
 pub use entries::{accessible, entry_of, flags_added, has_rights, rights};
 pub use mappings::{above, in_hand, lent, mapping, set_above, set_lent, set_mapping, table_for};
@@ -26,5 +26,5 @@ pub use partitions::{
 pub use parts::{fill_page, wipe_page, words_of};
 pub use sizes::{flat_page, flat_pages, threes_for};
 pub use tables::table_word;
-pub use widths::{edition_of, most_flag, page_bytes, page_words, width, width_of};
+pub use widths::{IndexWidth, edition_of, most_flag, page_bytes, page_words, width, width_of};
 pub use words::{index, read_word, write_word};

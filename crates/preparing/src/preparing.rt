@@ -8,38 +8,40 @@ ghost use Rattle.rules.specs.Conditions.{child};
 ghost use Rattle.rules.specs.Refusals.{refusal};
 ghost use Rattle.rules.specs.Effects.{effect};
 ghost use Rattle.rules.specs.Calls.{answer, after};
-ghost use Rattle.pages.specs.Width.{Width};
-ghost use Rattle.answers.specs.Said.{said};
+ghost use Rattle.answers.specs.Said.{refusal_in, said};
 
 use crate::chains::{chain_refusal, link};
-use answers::Answer;
+use answers::{Answer, Refusal};
+use pages::IndexWidth;
 use threes::lists::{append_three, put_three, roots_of};
 
 // 1 3 5 9 10, then the chain
-fn prepare_refusal(b: u32, m: &[u32], good: bool, c: u32, t: u32, p: u32) -> u32
-    requires width { Width b }
-    requires judged { good ≡ sound_test b m.now }
-    ensures { (result ≡ refusal b m.now (Call.prepare c t p)) × (result ≤ 16) }
+fn prepare_refusal(
+    b: IndexWidth,
+    m: &[u32],
+    good: bool,
+    c: u32,
+    t: u32,
+    p: u32,
+) -> Result<(), Refusal>
+    requires judged { good ≡ sound_test b.bits m.now }
+    ensures { refusal_in result ≡ refusal b.bits m.now (Call.prepare c t p) }
 {
-    let n = moves::child_refusal(b, m, good, &[c, t, p], c);
-    if n != 0 {
-        return n;
-    }
+    moves::child_refusal(b, m, good, &[c, t, p], c)?;
     let k = moves::child_of(b, m, c);
     if !moves::no_three(b, m, k, t) {
-        return 9;
+        return Err(Refusal::Taken);
     }
     if moves::list_full(b, m, k, t) {
-        return 10;
+        return Err(Refusal::List);
     }
     chain_refusal(b, m, p)
 }
 
 // The links are read before a page is taken and wiped.
-fn prepare_effect(b: u32, m: &mut [u32], c: u32, t: u32, p: u32)
-    requires width { Width b }
-    requires few { word b m.old (list b m.old (child b m.old c)) 0 ≤ 61 }
-    ensures { m.new ≡ effect b m.old (Call.prepare c t p) }
+fn prepare_effect(b: IndexWidth, m: &mut [u32], c: u32, t: u32, p: u32)
+    requires few { word b.bits m.old (list b.bits m.old (child b.bits m.old c)) 0 ≤ 61 }
+    ensures { m.new ≡ effect b.bits m.old (Call.prepare c t p) }
 {
     let d = pages::current(b, m);
     let k = moves::child_of(b, m, c);
@@ -58,15 +60,11 @@ fn prepare_effect(b: u32, m: &mut [u32], c: u32, t: u32, p: u32)
 }
 
 // 6. The child stands at c of the caller, t is an address of its own, and p the first page of the chain.
-pub fn prepare(b: u32, m: &mut [u32], good: bool, c: u32, t: u32, p: u32) -> Answer
-    requires width { Width b }
-    requires judged { good ≡ sound_test b m.old }
-    ensures { (said result ≡ answer b m.old (Call.prepare c t p)) × (m.new ≡ after b m.old (Call.prepare c t p)) }
+pub fn prepare(b: IndexWidth, m: &mut [u32], good: bool, c: u32, t: u32, p: u32) -> Answer
+    requires judged { good ≡ sound_test b.bits m.old }
+    ensures { (said result ≡ answer b.bits m.old (Call.prepare c t p)) × (m.new ≡ after b.bits m.old (Call.prepare c t p)) }
 {
-    let n = prepare_refusal(b, m, good, c, t, p);
-    if n != 0 {
-        return answers::reply(n, 0);
-    }
+    prepare_refusal(b, m, good, c, t, p)?;
     prepare_effect(b, m, c, t, p);
-    answers::reply(0, 0)
+    Ok(0)
 }

@@ -1,19 +1,22 @@
 -- Bytes written by way of a part, and behind bytes that were written. Assumes nothing.
-use mathlib.Core.Path.{◌≡◌, refl, ap, ◌∙◌}
+use mathlib.Core.Path.{◌≡◌, refl, ap}
 use mathlib.Core.List.{List, [], ◌∷◌, ◌++◌}
-use Prim.Native.Nat.{ℕ, zero, suc, ◌+◌, ◌-◌, ◌≤◌}
+use Prim.Native.Nat.{ℕ, zero, suc, ◌+◌, ◌≤◌}
 use native.Mathlib.Omega.{arith}
-use native.Mathlib.Nat.{le_refl}
 use lib.ListN.{length, take, drop}
 use Rattle.memory.specs.Words.{overwrite}
-use Rattle.common.proofs.Overwrite.{part-back}
 
--- the part that was lent comes back with the bytes ws at its start
-pub part-written : (m : List ℕ) (i : ℕ) (ws ys : List ℕ) → i + length ws ≤ length m → ys ≡ overwrite (take (i + length ws - i) (drop i m)) 0 ws
-    → take i m ++ (ys ++ drop (i + length ws - i) (drop i m)) ≡ overwrite m i ws
-part-written m i ws ys h e =
-    ap (λ (l : List ℕ). take i m ++ (l ++ drop (i + length ws - i) (drop i m))) e
-    ∙ part-back m i (length ws) i (i + length ws) ws (le_refl (length ws)) (omega arith) (omega arith)
+-- the bytes ws, with those before and behind them as they were
+pub written : (m : List ℕ) (i n : ℕ) (ws : List ℕ) → n ≡ length ws → i + n ≤ length m → take i m ++ (ws ++ drop n (drop i m)) ≡ overwrite m i ws
+written [] zero zero [] e h = refl
+written [] zero zero (w ∷ ws) e h = absurd (omega arith)
+written [] zero (suc n) ws e h = absurd (omega arith)
+written [] (suc i) n ws e h = absurd (omega arith)
+written (x ∷ m) zero zero [] e h = refl
+written (x ∷ m) zero (suc n) [] e h = absurd (omega arith)
+written (x ∷ m) zero zero (w ∷ ws) e h = absurd (omega arith)
+written (x ∷ m) zero (suc n) (w ∷ ws) e h = ap (λ (l : List ℕ). w ∷ l) (written m zero n ws (omega arith) (omega arith))
+written (x ∷ m) (suc i) n ws e h = ap (λ (l : List ℕ). x ∷ l) (written m i n ws e (omega arith))
 
 pub overwrite_append : (m : List ℕ) (i : ℕ) (xs ys : List ℕ) (j : ℕ) → j ≡ i + length xs → overwrite (overwrite m i xs) j ys ≡ overwrite m i (xs ++ ys)
 overwrite_append [] i xs ys j e = refl

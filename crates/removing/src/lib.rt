@@ -1,5 +1,5 @@
 // remove_vaddr: a page lent to a child is taken back.
-#![tactic(auto)]
+#![tactic(auto, unfolding(common::specs::Row::first, common::specs::Row::reply, common::specs::Row::pass, rules::specs::Refusals::refusals, rules::specs::Effects::effect, rules::specs::Calls::result, rules::specs::Calls::answer, rules::specs::Calls::after, rules::specs::Effects::remove,))]
 
 pub mod removing;
 

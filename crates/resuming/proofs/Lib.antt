@@ -1,3 +1,2 @@
-pub mod SlotRow
 pub mod Resumption
 pub mod Beside

@@ -9,19 +9,16 @@ ghost use Rattle.rules.specs.Conditions.{bad_slot};
 ghost use Rattle.rules.specs.Refusals.{refusal};
 ghost use Rattle.rules.specs.Effects.{effect};
 ghost use Rattle.rules.specs.Calls.{answer, after, resumed, context};
-ghost use Rattle.pages.specs.Width.{Width};
-ghost use Rattle.answers.specs.Said.{said, Told};
+ghost use Rattle.answers.specs.Said.{refusal_in, said};
 
-use answers::{Answer, context_reply};
+use answers::{Answer, Refusal};
 use contexts::slot_pages::{no_slots, slot_page};
-use contexts::slots::{
-    MOST_SLOT, PIPFLAGS_PLACE, SAVED_WORDS, TO_CHILD_SLOT, clear_valid, saved_in, valid,
-};
+use contexts::slots::{MOST_SLOT, PIPFLAGS_PLACE, SAVED_WORDS, Slot, TO_CHILD_SLOT};
 use contexts::switching::switch_to;
 use contexts::targets::{target_word, toward_refusal};
-use pages::PhysicalPage;
+use pages::{IndexWidth, PhysicalPage};
 
-// The eleven words stand beside the answer; beside a refusal they are zeros.
+// The eleven words stand beside the answer; beside a refusal they are zeros. They are in no Ok, since `tumashqin_resume` writes the zeros too (`context`).
 #[derive(Clone, Copy)]
 pub struct Resumed {
     pub answer: Answer,
@@ -32,62 +29,57 @@ pub struct Resumed {
 fn bad_slot(t: u32, s: u32) -> bool
     ensures { result ≡ bad_slot t s }
 {
-    if MOST_SLOT < s {
-        return true;
-    }
-    if t != 0 {
-        return false;
-    }
-    s != TO_CHILD_SLOT
+    MOST_SLOT < s || (t == 0 && s != TO_CHILD_SLOT)
 }
 
 // 22: "a child's slot not valid", the target t being partition d.
-fn empty_slot(b: u32, m: &[u32], t: u32, d: PhysicalPage, s: u32) -> bool
-    requires width { Width b }
+fn empty_slot(b: IndexWidth, m: &[u32], t: u32, d: PhysicalPage, s: u32) -> bool
     requires small { s ≤ most_slot }
-    ensures { result ≡ (not (eqb t 0) && not (Contexts.valid b m.now d.0 s)) }
+    ensures { result ≡ (not (eqb t 0) && not (Contexts.valid b.bits m.now d.0 s)) }
 {
     if t == 0 {
         return false;
     }
-    !valid(b, m, slot_page(b, m, d), s)
+    let slot = Slot {
+        page: slot_page(b, m, d),
+        number: s,
+    };
+    !slot.valid(b, m)
 }
 
 // 1 24 3, 5 or 14, 21, 20 of the target, 22.
-fn resume_refusal(b: u32, m: &[u32], good: bool, t: u32, s: u32) -> u32
-    requires width { Width b }
-    requires judged { good ≡ sound_test b m.now }
-    ensures { (result ≡ refusal b m.now (Call.resume t s)) × Told result }
+fn resume_refusal(b: IndexWidth, m: &[u32], good: bool, t: u32, s: u32) -> Result<(), Refusal>
+    requires judged { good ≡ sound_test b.bits m.now }
+    ensures { refusal_in result ≡ refusal b.bits m.now (Call.resume t s) }
 {
-    let n = toward_refusal(b, m, good, t);
-    if n != 0 {
-        return n;
-    }
+    toward_refusal(b, m, good, t)?;
     if bad_slot(t, s) {
-        return 21;
+        return Err(Refusal::Slot);
     }
     let k = pages::page_of(b, target_word(b, m, t));
     if no_slots(b, m, k) {
-        return 20;
+        return Err(Refusal::SlotPage);
     }
     if empty_slot(b, m, t, k, s) {
-        return 22;
+        return Err(Refusal::EmptySlot);
     }
-    0
+    Ok(())
 }
 
 // The answer is the eleven words. Where the parent's slot "isn't valid the root becomes current with flag 1, .. and the answer is eleven zeros".
-fn resume_effect(b: u32, m: &mut [u32], t: u32, s: u32) -> [u32; SAVED_WORDS]
-    requires width { Width b }
+fn resume_effect(b: IndexWidth, m: &mut [u32], t: u32, s: u32) -> [u32; SAVED_WORDS]
     requires small { s ≤ most_slot }
-    ensures { (result ≡ resumed b m.old 0 (some (t, s))) × (m.new ≡ effect b m.old (Call.resume t s)) }
+    ensures { (result ≡ resumed b.bits m.old 0 (some (t, s))) × (m.new ≡ effect b.bits m.old (Call.resume t s)) }
 {
     let d = pages::current(b, m);
     let w = target_word(b, m, t);
-    let p = slot_page(b, m, pages::page_of(b, w));
-    if valid(b, m, p, s) {
-        let words = saved_in(b, m, p, s);
-        clear_valid(b, m, p, s);
+    let slot = Slot {
+        page: slot_page(b, m, pages::page_of(b, w)),
+        number: s,
+    };
+    if slot.valid(b, m) {
+        let words = slot.saved(b, m);
+        slot.clear_valid(b, m);
         switch_to(b, m, d, w, 0, words[PIPFLAGS_PLACE] % 2);
         return words;
     }
@@ -96,23 +88,21 @@ fn resume_effect(b: u32, m: &mut [u32], t: u32, s: u32) -> [u32; SAVED_WORDS]
 }
 
 // The target t becomes current; s is the number of its slot.
-pub fn resume(b: u32, m: &mut [u32], good: bool, t: u32, s: u32) -> Resumed
-    requires width { Width b }
-    requires judged { good ≡ sound_test b m.old }
-    ensures { (said result.answer ≡ answer b m.old (Call.resume t s))
-        × (result.words ≡ context b m.old (Call.resume t s))
-        × (m.new ≡ after b m.old (Call.resume t s)) }
+pub fn resume(b: IndexWidth, m: &mut [u32], good: bool, t: u32, s: u32) -> Resumed
+    requires judged { good ≡ sound_test b.bits m.old }
+    ensures { (said result.answer ≡ answer b.bits m.old (Call.resume t s))
+        × (result.words ≡ context b.bits m.old (Call.resume t s))
+        × (m.new ≡ after b.bits m.old (Call.resume t s)) }
 {
-    let n = resume_refusal(b, m, good, t, s);
-    if n != 0 {
+    if let Err(refusal) = resume_refusal(b, m, good, t, s) {
         return Resumed {
-            answer: context_reply(n),
+            answer: Err(refusal),
             words: [0; SAVED_WORDS],
         };
     }
     let words = resume_effect(b, m, t, s);
     Resumed {
-        answer: context_reply(0),
+        answer: Ok(0),
         words: words,
     }
 }

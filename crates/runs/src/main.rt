@@ -5,19 +5,16 @@
 #![tactic(auto)]
 
 pub mod records;
-pub mod sequences;
 
-use sequences::run_memory;
+use records::print_records;
 use std::io;
+use stdio::run_memories;
 
-// At most 256 memories.
+// Memories of at most 20,480 words.
 fn main(rt: HostRuntime) -> io::Result<()> {
     let mut input = rt.reader();
     let mut output = io::writer(&rt);
-    for _k in 0u32..256 {
-        if run_memory(&mut input, &mut output)? == 0 {
-            return Ok(());
-        }
-    }
-    Ok(())
+    let mut room = [0u32; 20480];
+    let run = |m: &mut [u32], calls: &[u32], answers: &mut [u64]| kernel::run(m, calls, answers);
+    run_memories(&mut input, &mut output, &mut room, run, print_records)
 }

@@ -1,32 +1,23 @@
 -- A number's decimal digits. Assumes nothing.
-use mathlib.Core.Path.{◌≡◌, refl, ap, ◌∙◌, subst}
+use mathlib.Core.Path.{◌≡◌, refl, sym}
 use mathlib.Core.Bool.{Bool, true, false, cond}
-use mathlib.Core.List.{List, [], ◌∷◌, ◌++◌}
-use Prim.Native.Nat.{ℕ, zero, suc, ◌+◌, ◌/◌, ◌%◌, ◌^◌, ◌≤◌, ◌<◌}
-use native.Mathlib.Nat.{pow-suc, div-lt_iff_lt-mul}
+use mathlib.Core.List.{[], ◌∷◌, ◌++◌}
+use Prim.Native.Nat.{ℕ, zero, suc, ◌+◌, ◌/◌, ◌%◌, ◌≤◌, ◌<◌}
 use native.Mathlib.Omega.{arith}
 use lib.Dec.{ltb}
 use lib.ListN.{length, length-append}
 use borrow.Author.Tests.{lt-ltb, le-ltb}
+use borrow.Author.Rules.{rules}
+use Rattle.std.specs.Fmt as Fmt
+use Rattle.std.proofs.lemmas.Fmt.{AppendsLastDigit, decimal_from_appends, length-decimal-le}
 use Rattle.rules.specs.Replay.{digits, decimal}
 
--- more room for digits than a number needs adds none
-digits_more : (m x : ℕ) → x < 10 ^ suc m → digits (suc m) x ≡ digits (suc (suc m)) x
+-- the library's digits of a 32-bit word are those of the definition
+pub as_printed : (x : ℕ) → x < 4294967296 → Fmt.decimal x ≡ decimal x
 unfolding digits
-digits_more zero x h = rw (lt-ltb x 10 h) refl
-digits_more (suc m) x h =
-    ap (λ (l : List ℕ). cond (ltb x 10) ((48 + x) ∷ []) (l ++ ((48 + x % 10) ∷ [])))
-    (digits_more m (x / 10) ((div-lt_iff_lt-mul {k = 10} {x = x} {y = 10 ^ suc m} (omega arith)).1 (subst (λ (n : ℕ). x < n) (pow-suc 10 (suc m)) h)))
-
-pub one-digit : (x : ℕ) → x < 10 → decimal x ≡ (48 + x) ∷ []
-unfolding digits
-one-digit x h = rw (lt-ltb x 10 h) refl
-
-pub more-digits : (x : ℕ) → 10 ≤ x → x < 4294967296 → decimal x ≡ decimal (x / 10) ++ ((48 + x % 10) ∷ [])
-unfolding digits
-more-digits x h l =
-    let e : digits 10 x ≡ digits 9 (x / 10) ++ ((48 + x % 10) ∷ []) = rw (le-ltb x 10 h) refl in
-    e ∙ ap (λ (l : List ℕ). l ++ ((48 + x % 10) ∷ [])) (digits_more 8 (x / 10) (omega arith))
+as_printed x h =
+    let own : AppendsLastDigit digits = record { one = λ k n l. rw (lt-ltb n 10 l) refl; more = λ k n l. rw (le-ltb n 10 l) refl } in
+    sym (decimal_from_appends digits own 10 x (omega arith) (search (rules, length-decimal-le 10)))
 
 pub digits-most : (m x : ℕ) → length (digits m x) ≤ m
 unfolding digits

@@ -32,12 +32,6 @@ arguments-most n = most-at (and (omega arith) (and (omega arith) (and (omega ari
 pub known? : (n : ℕ) → Tells (known_call n) ((1 ≤ n) × (n ≤ 12))
 known? n = both le? le?
 
-pub below_one : (n : ℕ) → n < 1 → known_call n ≡ false
-below_one n h = rw (lt-leb 1 n h) refl
-
-pub by_twelve : (n : ℕ) → 1 ≤ n → known_call n ≡ leb n 12
-by_twelve n h = rw (le-leb 1 n h) refl
-
 -- ---- one record
 
 module _ (bs : List ℕ) (i : ℕ) where

@@ -1,5 +1,5 @@
 -- The bytes of a transcript, written one behind the other. Assumes nothing.
-use Rattle.std.specs.Prelude.{◌≡◌, List, [], ◌∷◌, ◌++◌, Bool, true, false, ℕ, ◌+◌, length}
+use Rattle.std.specs.Prelude.{◌≡◌, List, [], ◌∷◌, ◌++◌, ℕ, ◌+◌, length}
 use Rattle.memory.specs.Geometry.{flat_pages}
 use Rattle.memory.specs.Words.{overwrite}
 use Rattle.rules.specs.Replay.{decimal}
@@ -8,11 +8,6 @@ use Rattle.rules.specs.Replay.{decimal}
 pub record Put (before after : List ℕ) (i j : ℕ) (ws : List ℕ) : Type 0 where
   pub next : j ≡ i + length ws
   pub bytes : after ≡ overwrite before i ws
-
--- " ok " or " no "
-abbrev pub outcome_word : Bool → List ℕ
-outcome_word true = 32 ∷ 111 ∷ 107 ∷ 32 ∷ []
-outcome_word false = 32 ∷ 110 ∷ 111 ∷ 32 ∷ []
 
 -- "a line `N F`"
 abbrev pub first_line : ℕ → ℕ → List ℕ

@@ -7,10 +7,7 @@ const ARGUMENTS: [usize; 12] = [5, 1, 4, 2, 2, 3, 2, 1, 1, 0, 1, 2];
 pub fn known_call(n: u32) -> bool
     ensures { result ≡ known_call n }
 {
-    if n < 1 {
-        return false;
-    }
-    n <= 12
+    (1..=12).contains(&n)
 }
 
 pub fn argument_count(n: u32) -> usize

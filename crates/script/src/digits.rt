@@ -3,6 +3,7 @@ ghost use Rattle.std.specs.Prelude.{◌+◌, ◌≤◌, length};
 ghost use Rattle.rules.specs.Replay.{decimal};
 ghost use Rattle.script.specs.Lines.{Put};
 
+use itoa::Buffer;
 use record::put_bytes;
 
 // The bytes ws stand from byte `at` on; the byte behind them is returned.
@@ -19,11 +20,5 @@ pub fn put_decimal(out: &mut [u8], at: usize, x: u32) -> usize
     requires { at + length (decimal x) ≤ length out.old }
     ensures { Put out.old out.new at result (decimal x) }
 {
-    if x < 10 {
-        out[at] = 48 + x as u8;
-        return at + 1;
-    }
-    let e = put_decimal(out, at, x / 10);
-    out[e] = 48 + (x % 10) as u8;
-    e + 1
+    put(out, at, Buffer::new().format(x).as_bytes())
 }

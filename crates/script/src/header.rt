@@ -1,17 +1,15 @@
 // "little-endian words: N, record count, byte offset of the first record (12 up to the length; bytes between are ignored)".
 ghost use Rattle.std.specs.Prelude.{◌≡◌};
 ghost use Rattle.rules.specs.Replay.{script};
-ghost use Rattle.pages.specs.Width.{Width};
 ghost use Rattle.script.specs.Walk.{is_script, good_header};
 
 use crate::records::all_records;
-use pages::page_words;
+use pages::{IndexWidth, page_words};
 use record::word_in;
 
 // No "short header, bad offset, bad N, .. or longer input".
-pub fn good_header(b: u32, bytes: &[u8]) -> bool
-    requires { Width b }
-    ensures { result ≡ good_header b bytes.now }
+pub fn good_header(b: IndexWidth, bytes: &[u8]) -> bool
+    ensures { result ≡ good_header b.bits bytes.now }
 {
     if bytes.len() < 12 {
         return false;
@@ -34,9 +32,8 @@ pub fn good_header(b: u32, bytes: &[u8]) -> bool
 }
 
 // Whether the bytes are a script; else replay "prints only `bad script`".
-pub fn well_formed(b: u32, bytes: &[u8]) -> bool
-    requires { Width b }
-    ensures { result ≡ is_script (script b bytes.now) }
+pub fn well_formed(b: IndexWidth, bytes: &[u8]) -> bool
+    ensures { result ≡ is_script (script b.bits bytes.now) }
 {
     if !good_header(b, bytes) {
         return false;

@@ -45,14 +45,12 @@ pub fn all_records(bytes: &[u8], count: u32, first: usize) -> bool
     requires { first ≤ length bytes.now }
     ensures { result ≡ is_script (records count bytes.now first) }
 {
-    let mut n = count;
     let mut i = first;
-    while n > 0 {
+    for _ in 0..count {
         if !whole_record(bytes, i) {
             return false;
         }
         i = next_record(bytes, i);
-        n -= 1;
     }
     i == bytes.len()
 }

@@ -1,8 +1,8 @@
 -- Words taken one after the other.
-use Rattle.std.proofs.Common.{arith, ◌≡◌, ◌∙◌, ℕ, ◌+◌, ◌*◌, ◌<◌, List, Option, None, Some, IfSome, length, drop, slice_index, slice_set, ap, sym, subst, ◌⊎◌, inl, inr}
+use Rattle.std.proofs.Common.{arith, ◌≡◌, ◌∙◌, ℕ, ◌+◌, ◌*◌, ◌<◌, List, Option, None, Some, IfSome, length, drop, slice_index, slice_set, ap, sym, subst, ◌⊎◌, inl, inr, refl}
 use Rattle.std.proofs.lemmas.List.{drop-drop, get_or-set_same, get_or-set_other}
 use Rattle.std.proofs.lemmas.Bool.{cases_eq}
-use Rattle.stdio.specs.Words.{HoldsWords, LosesWord, LosesWords, first_word}
+use Rattle.stdio.specs.Words.{HoldsWords, LosesWhole, LosesWord, LosesWords, first_word}
 
 -- one word after n
 pub loses-more : (n : ℕ) (a b c : Option (List ℕ)) → LosesWords n a b → LosesWord b c → LosesWords (n + 1) a c
@@ -32,3 +32,18 @@ holds-more n None b ws w l h p q = tt
 holds-more n (Some bs) b ws w l h p q =
     let next : w ≡ first_word (drop (4 * n) bs) = subst (λ o. IfSome o (λ bs. w ≡ first_word bs)) p q in
     λ k m. holds-at n bs ws w l h next k m (cases_eq k n)
+
+-- words after words
+pub loses-on : (i j : ℕ) (a b c : Option (List ℕ)) → LosesWords i a b → LosesWords j b c → LosesWords (i + j) a c
+loses-on i j None b c p q = tt
+loses-on i j (Some bs) b c p q =
+    let last : c ≡ Some (drop (4 * j) (drop (4 * i) bs)) = subst (λ o. LosesWords j o c) p q in
+    let same : 4 * i + 4 * j ≡ 4 * (i + j) = omega arith in
+    last ∙ ap Some (drop-drop (4 * j) (4 * i) bs) ∙ ap (λ k. Some (drop k bs)) same
+
+pub loses-none : (a : Option (List ℕ)) → LosesWords 0 a a
+loses-none None = tt
+loses-none (Some bs) = refl
+
+pub loses-all : (a b c : Option (List ℕ)) → LosesWhole a b → LosesWhole b c → LosesWhole a c
+loses-all a b c p q = (p.0 + q.0, loses-on p.0 q.0 a b c p.1 q.1)

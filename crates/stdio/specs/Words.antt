@@ -20,3 +20,7 @@ HoldsWords n ws bs = (k : ℕ) → k < n → slice_index ws k ≡ first_word (dr
 -- of known bytes n words were taken
 abbrev pub LosesWords : ℕ → Option (List ℕ) → Option (List ℕ) → Type 0
 LosesWords n old new = IfSome old (λ bs. new ≡ Some (drop (4 * n) bs))
+
+-- of known bytes some number of words was taken
+abbrev pub LosesWhole : Option (List ℕ) → Option (List ℕ) → Type 0
+LosesWhole old new = (n : ℕ) × LosesWords n old new

@@ -3,7 +3,7 @@ ghost use Rattle.std.specs.Io.KnownBytes.{Appends};
 ghost use Rattle.std.specs.Prelude.{OnOk};
 ghost use Rattle.stdio.specs.Lines.{answer_line, answer_lines, part_lines, refusal_text, verdict_line};
 
-use crate::hash::hash;
+use crate::hashing::hash;
 use std::io;
 use std::io::Write;
 
@@ -20,6 +20,7 @@ fn print_answer<W: Write>(output: &mut W, x: u64) -> io::Result<()>
 }
 
 // A number that is no answer.
+// Numbers and no Options: by their contracts, `Ran`, the kernels write packed numbers into the answers that are lent.
 pub const NONE: u64 = 0xFFFF_FFFF_FFFF_FFFF;
 
 // The numbers of the answers, up to the first that no call wrote.
@@ -40,7 +41,7 @@ pub fn print_part<W: Write>(output: &mut W, answers: &[u64], m: &[u32]) -> io::R
     ensures { OnOk result (Appends (W.contents output.old) (W.contents output.new) (part_lines answers.now m.now)) }
 {
     print_answers(output, answers)?;
-    let left = hash(m);
+    let left = hash(m.iter().copied());
     writeln!(output, "{left}")
 }
 

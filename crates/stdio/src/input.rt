@@ -14,6 +14,7 @@ pub fn read_full<R: Read>(input: &mut R, bytes: &mut [u8]) -> io::Result<usize>
     ensures front { IfOk result (λ n. IfSome (R.remaining input.old) (λ bs. take n bytes.new ≡ take (length bytes.new) bs)) }
     ensures end { IfOk result (λ n. n < length bytes.new → IsAtEnd (R.remaining input.new)) }
 {
+    // Each read says how far it came: no range has these places.
     let mut done = 0;
     while done < bytes.len() {
         let n = input.read(&mut bytes[done..])?;
@@ -25,32 +26,15 @@ pub fn read_full<R: Read>(input: &mut R, bytes: &mut [u8]) -> io::Result<usize>
     Ok(done)
 }
 
-// The byte at index i; 0 past the end.
-fn byte(bytes: &[u8], i: usize) -> u32
-    ensures value { result ≡ slice_index bytes.now i }
-    ensures bound { result < 256 }
-{
-    if i < bytes.len() {
-        return bytes[i] as u32;
-    }
-    0
-}
-
-// The word at the start; a byte past the end counts as 0.
-fn first_word(bytes: &[u8]) -> u32
-    ensures { result ≡ first_word bytes.now }
-{
-    byte(bytes, 0) + 256 * byte(bytes, 1) + 65536 * byte(bytes, 2) + 16777216 * byte(bytes, 3)
-}
-
-// The next word of the input; 0 past its end.
+// The next word of the input; a byte past its end counts as 0.
 pub fn next_word<R: Read>(input: &mut R) -> io::Result<u32>
     ensures word { IfOk result (λ w. IfSome (R.remaining input.old) (λ bs. w ≡ first_word bs)) }
     ensures rest { OnOk result (LosesWord (R.remaining input.old) (R.remaining input.new)) }
 {
     let mut four = [0u8; 4];
     let n = read_full(input, &mut four)?;
-    Ok(first_word(&four[..n]))
+    four[n..].fill(0);
+    Ok(u32::from_le_bytes(four))
 }
 
 // The next words of the input, as many as there is room for.
@@ -58,13 +42,14 @@ fn next_words<R: Read>(input: &mut R, words: &mut [u32]) -> io::Result<()>
     ensures words { OnOk result (IfSome (R.remaining input.old) (HoldsWords (length words.old) words.new)) }
     ensures rest { OnOk result (LosesWords (length words.old) (R.remaining input.old) (R.remaining input.new)) }
 {
-    for i in 0..words.len() {
-        words[i] = next_word(input)?;
+    for word in words {
+        *word = next_word(input)?;
     }
     Ok(())
 }
 
 // The next word of the input as a count; 0 where it is above `most`.
+// A usize and no Option, which would be no plainer: the input itself ends with the count 0, and a caller tests it once.
 pub fn next_count<R: Read>(input: &mut R, most: usize) -> io::Result<usize>
     ensures bound { IfOk result (λ n. n ≤ most) }
     ensures count { IfOk result (λ n. IfSome (R.remaining input.old) (λ bs. n ≡ first_count most bs)) }

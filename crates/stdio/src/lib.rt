@@ -2,9 +2,11 @@
 #![tactic(auto)]
 
 mod answers;
-mod hash;
+mod hashing;
 mod input;
+mod sequences;
 
 pub use answers::{NONE, print_part, print_refusal, print_verdict};
-pub use hash::hash_bytes;
+pub use hashing::hash;
 pub use input::{next_count, next_part, next_word, read_full};
+pub use sequences::run_memories;

@@ -8,3 +8,4 @@ pub mod Walks
 pub mod Tally
 pub mod Marks
 pub mod Bits
+pub mod Used

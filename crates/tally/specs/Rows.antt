@@ -1,6 +1,7 @@
 -- The words of a table as a list, and what is asked of the words of a row, whose places are 0 up to the words of a page: w of the page table, x of shadow
 -- 1, y of shadow 2. Assumes nothing.
-use Rattle.std.specs.Prelude.{◌≡◌, List, [], Bool, true, cond, not, ◌&&◌, ◌||◌, ℕ, ◌+◌, ◌*◌, leb, eqb, get_or}
+use Rattle.std.specs.Prelude.{◌≡◌, List, [], Bool, true, cond, not, ◌&&◌, ◌||◌, ℕ, ◌+◌, ◌-◌, ◌*◌, ◌<◌, leb, eqb, length, get_or, Option, MatchOption}
+use Rattle.tally.specs.Search.{seek}
 use Rattle.memory.specs.Geometry.{page_words, page_of, most_threes}
 use Rattle.memory.specs.Words.{word, page}
 use Rattle.memory.specs.Entry.{accessible, rights, all_rights, holds, write_and_execute}
@@ -15,6 +16,10 @@ virtual_pages b = page_words b * page_words b
 -- the word of s at i is not 0
 abbrev pub used : List ℕ → ℕ → Bool
 used s i = not (eqb (get_or s i 0) 0)
+
+-- a step over the places of s that are used, where i is the next or the end: the place that it gives, and the next after it
+abbrev pub Gives : List ℕ → ℕ → Option ℕ → ℕ → Type 0
+Gives s i r j = MatchOption r (i ≡ length s) (λ k. (k ≡ i) × (i < length s) × (j ≡ seek (used s) (length s - (i + 1)) (i + 1)))
 
 -- the table that a word of a directory or a shadow names: none, or the words of a page
 unfoldable pub table : ℕ → List ℕ → ℕ → List ℕ

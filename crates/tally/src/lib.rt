@@ -6,5 +6,5 @@ pub mod rows;
 pub mod tally;
 
 pub use marks::{mark_kernel, mark_outside};
-pub use rows::{block_of, next_word, table_of};
+pub use rows::{Used, block_of, next_word, table_of, used_places};
 pub use tally::lent_test;

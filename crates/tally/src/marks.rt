@@ -8,10 +8,9 @@ ghost use Rattle.memory.specs.Uses.{five_pages};
 ghost use Rattle.soundness.specs.Test.{listed_pages};
 ghost use Rattle.tally.specs.Rows.{hand_words};
 ghost use Rattle.tally.specs.Bits.{marks_in, mark_outside};
-ghost use Rattle.pages.specs.Width.{Width};
 
 use own_pages::list_pair;
-use pages::{PhysicalPage, accessible, named, page_of, threes};
+use pages::{IndexWidth, PhysicalPage, accessible, named, page_of, threes};
 
 // Marks what lies past n pages in the last word, which was 0: no page outside can then be marked.
 pub fn mark_outside(seen: &mut [u32], n: u32)
@@ -21,7 +20,7 @@ pub fn mark_outside(seen: &mut [u32], n: u32)
     if i >= seen.len() {
         return;
     }
-    seen[i] = 4294967295 - ((1 << (n % 32)) - 1);
+    seen[i] = u32::MAX - ((1 << (n % 32)) - 1);
 }
 
 // Marks page p, unless it is 0, outside or marked. Where it has its mark the word stays as it is.
@@ -45,10 +44,9 @@ pub fn mark_page(seen: &mut [u32], p: PhysicalPage) -> bool
 }
 
 // The kernel pages of d in order: descriptor, directory, shadow 1, shadow 2, list, and the tables that the list names.
-pub fn kernel_page(b: u32, m: &[u32], d: PhysicalPage, j: u32) -> PhysicalPage
-    requires width { Width b }
-    requires one { j < 5 + 3 * Partition.threes b m.now d.0 }
-    ensures { result.0 ≡ get_or (five_pages b m.now d.0 ++ listed_pages b m.now d.0) j 0 }
+pub fn kernel_page(b: IndexWidth, m: &[u32], d: PhysicalPage, j: u32) -> PhysicalPage
+    requires one { j < 5 + 3 * Partition.threes b.bits m.now d.0 }
+    ensures { result.0 ≡ get_or (five_pages b.bits m.now d.0 ++ listed_pages b.bits m.now d.0) j 0 }
 {
     if j == 0 {
         return d;
@@ -60,27 +58,23 @@ pub fn kernel_page(b: u32, m: &[u32], d: PhysicalPage, j: u32) -> PhysicalPage
 }
 
 // Marks the kernel pages of d.
-pub fn mark_kernel(b: u32, m: &[u32], seen: &mut [u32], d: PhysicalPage) -> bool
-    requires width { Width b }
-    requires few { Partition.threes b m.now d.0 ≤ most_threes }
-    ensures { marks (marks_in seen.old) (five_pages b m.now d.0 ++ listed_pages b m.now d.0)
+pub fn mark_kernel(b: IndexWidth, m: &[u32], seen: &mut [u32], d: PhysicalPage) -> bool
+    requires few { Partition.threes b.bits m.now d.0 ≤ most_threes }
+    ensures { marks (marks_in seen.old) (five_pages b.bits m.now d.0 ++ listed_pages b.bits m.now d.0)
         ≡ answer result (marks_in seen.new) }
 {
     let n = 5 + 3 * threes(b, m, d);
-    let mut j: u32 = 0;
-    while j < n {
+    for j in 0..n {
         if !mark_page(seen, kernel_page(b, m, d, j)) {
             return false;
         }
-        j += 1;
     }
     true
 }
 
 // Marks the page of the word w, if it is in hand.
-pub fn mark_hand(b: u32, seen: &mut [u32], w: u32, x: u32) -> bool
-    requires { Width b }
-    ensures { cond (hand_words w x) (mark (marks_in seen.old) (page_of b w)) (some (marks_in seen.old))
+pub fn mark_hand(b: IndexWidth, seen: &mut [u32], w: u32, x: u32) -> bool
+    ensures { cond (hand_words w x) (mark (marks_in seen.old) (page_of b.bits w)) (some (marks_in seen.old))
         ≡ answer result (marks_in seen.new) }
 {
     if w == 0 {

@@ -1,78 +1,70 @@
 -- Words as names of calls. Assumes nothing.
 use mathlib.Core.Path.{◌≡◌, refl, sym, ap, ◌∙◌}
-use mathlib.Core.Bool.{Bool, true, false, cond, ◌&&◌}
+use mathlib.Core.Bool.{Bool, true, false, not, cond, ◌&&◌}
 use mathlib.Core.List.{List, [], ◌∷◌}
-use Prim.Native.Nat.{ℕ, suc, ◌+◌, ◌-◌, ◌≤◌, ◌<◌}
-use native.Mathlib.Numerals.{add-one}
+use Prim.Native.Nat.{ℕ, suc, ◌+◌, ◌≤◌, ◌<◌}
+use native.Mathlib.Decide.{dec_lt}
 use native.Mathlib.Omega.{arith}
 use lib.Dec.{eqb}
-use lib.ListN.{length, get_or, drop, drop_of_length-le}
-use lib.Seq.{drop-cons}
-use borrow.Author.Tests.{eq-eqb, ne_eqb, lt-ltb, le-ltb}
+use lib.ListN.{length}
+use borrow.Author.Tests.{lt-ltb, le-ltb}
+use Rattle.std.specs.Prelude.{Option, Some, None}
+use Rattle.std.specs.List.{prefix_len, position}
+use Rattle.std.specs.Cmp.Lexicographic.{pointwise}
 use Rattle.rules.specs.Replay.{known_call}
 use Rattle.text.specs.Numbers.{number, is_number}
 use Rattle.text.specs.Names.{names, same, place_from, named, call_number}
-use Rattle.text.proofs.Cuts.{cons_at, end-at}
-
--- ---- two words
-
-pub other_length : (a b : List ℕ) → (length a ≡ length b → ⊥) → same a b ≡ false
-unfolding same
-other_length [] [] h = absurd (h refl)
-other_length [] (y ∷ ys) h = refl
-other_length (x ∷ xs) [] h = refl
-other_length (x ∷ xs) (y ∷ ys) h = last (eqb x y) (other_length xs ys (λ e. h (ap suc e)))
-  where
-    last : (s : Bool) {t : Bool} → t ≡ false → (s && t) ≡ false
-    last true e = e
-    last false e = refl
-
-module _ (a b : List ℕ) (i : ℕ) where
-  step : i < length a → i < length b → same (drop i a) (drop i b) ≡ eqb (get_or a i 0) (get_or b i 0) && same (drop (i + 1) a) (drop (i + 1) b)
-  unfolding same
-  step h k = rw (cons_at a i h, cons_at b i k) refl
-
-  pub differs : i < length a → i < length b → (get_or a i 0 ≡ get_or b i 0 → ⊥) → same (drop i a) (drop i b) ≡ false
-  differs h k n = step h k ∙ ap (λ (t : Bool). t && same (drop (i + 1) a) (drop (i + 1) b)) (ne_eqb (get_or a i 0) (get_or b i 0) n)
-
-  pub agrees : i < length a → i < length b → get_or a i 0 ≡ get_or b i 0 → same (drop i a) (drop i b) ≡ same (drop (i + 1) a) (drop (i + 1) b)
-  agrees h k e = step h k ∙ ap (λ (t : Bool). t && same (drop (i + 1) a) (drop (i + 1) b)) (eq-eqb (get_or a i 0) (get_or b i 0) e)
-
-  pub both-over : length a ≤ i → length b ≤ i → same (drop i a) (drop i b) ≡ true
-  unfolding same
-  both-over h k = rw (end-at a i h, end-at b i k) refl
 
 -- ---- a word among the names
 
-pub past : {j k : ℕ} → j ≤ k → (k ≡ j → ⊥) → j + 1 ≤ k
-past h n = omega arith
+same-is : (a b : List ℕ) → pointwise eqb a b ≡ same a b
+unfolding same
+same-is [] [] = refl
+same-is [] (y ∷ ys) = refl
+same-is (x ∷ xs) [] = refl
+same-is (x ∷ xs) (y ∷ ys) = ap (λ (t : Bool). eqb x y && t) (same-is xs ys)
 
-pub name_of : (w : List ℕ) (k n : ℕ) → k ≡ n → same w (get_or names (n - 1) []) ≡ same w (get_or names (k - 1) [])
-name_of w k n e = ap (λ (j : ℕ). same w (get_or names (j - 1) [])) (sym e)
+module _ (w : List ℕ) where
+  -- how many names stand before w
+  abbrev pub before : List (List ℕ) → ℕ
+  before ns = prefix_len (λ (n : List ℕ). not (pointwise eqb w n)) ns
 
-module _ (w : List ℕ) (k : ℕ) where
-  -- the names from that of call k on
-  abbrev pub from : ℕ
-  from = place_from k w (drop (k - 1) names)
-
-  found : 1 ≤ k → k ≤ 12 → from ≡ cond (same w (get_or names (k - 1) [])) k (place_from (suc k) w (drop (suc (k - 1)) names))
+  at-name : (k : ℕ) (ns : List (List ℕ)) → before ns < length ns → place_from k w ns ≡ k + before ns
   unfolding place_from
-  found h l = ap (place_from k w) (drop-cons names (k - 1) [] (omega arith))
+  at-name k [] h = absurd (omega arith)
+  at-name k (n ∷ ns) h = ap (λ (t : Bool). cond t k (place_from (suc k) w ns)) (sym (same-is w n)) ∙ pick (pointwise eqb w n) h (at-name (suc k) ns)
+    where
+      pick : (t : Bool) → cond (not t) (1 + before ns) 0 < suc (length ns) → (before ns < length ns → place_from (suc k) w ns ≡ suc k + before ns)
+          → cond t k (place_from (suc k) w ns) ≡ k + cond (not t) (1 + before ns) 0
+      pick true l f = omega arith
+      pick false l f = omega (arith, f (omega arith))
 
-  pub is-here : 1 ≤ k → k ≤ 12 → same w (get_or names (k - 1) []) ≡ true → from ≡ k
-  is-here h l e = found h l ∙ ap (λ (t : Bool). cond t k (place_from (suc k) w (drop (suc (k - 1)) names))) e
-
-  pub is_later : 1 ≤ k → k ≤ 12 → same w (get_or names (k - 1) []) ≡ false → from ≡ place_from (k + 1) w (drop (k + 1 - 1) names)
-  is_later h l e =
-      let n : suc (k - 1) ≡ k + 1 - 1 = omega arith in
-      found h l
-      ∙ ap (λ (t : Bool). cond t k (place_from (suc k) w (drop (suc (k - 1)) names))) e
-      ∙ ap (λ (j : ℕ). place_from j w (drop (suc (k - 1)) names)) (sym (add-one k))
-      ∙ ap (λ (j : ℕ). place_from (k + 1) w (drop j names)) n
-
-  pub is_nowhere : 12 < k → from ≡ 0
+  no-name : (k : ℕ) (ns : List (List ℕ)) → length ns ≤ before ns → place_from k w ns ≡ 0
   unfolding place_from
-  is_nowhere h = ap (place_from k w) (drop_of_length-le names {i = k - 1} (omega arith))
+  no-name k [] h = refl
+  no-name k (n ∷ ns) h = ap (λ (t : Bool). cond t k (place_from (suc k) w ns)) (sym (same-is w n)) ∙ pick (pointwise eqb w n) h (no-name (suc k) ns)
+    where
+      pick : (t : Bool) → suc (length ns) ≤ cond (not t) (1 + before ns) 0 → (length ns ≤ before ns → place_from (suc k) w ns ≡ 0) → cond t k (place_from (suc k) w ns) ≡ 0
+      pick true l f = absurd (omega arith)
+      pick false l f = f (omega arith)
+
+  abbrev pub place : List (List ℕ) → Option ℕ
+  place ns = position (λ (n : List ℕ). pointwise eqb w n) ns
+
+  pub nowhere : place names ≡ None → 0 ≡ named w
+  nowhere e = elim (dec_lt (before names) (length names)) [
+    | yes l ↦ absurd (let z : ◌≡◌ {A = Option ℕ} (Some (before names)) None = (rw (lt-ltb (before names) (length names) l) at e) in cc)
+    | no l ↦ sym (no-name 1 names (omega arith))
+  ]
+
+  pub somewhere : (i : ℕ) → place names ≡ Some i → (i + 1 ≡ named w) × (i < 12)
+  somewhere i e = elim (dec_lt (before names) (length names)) [
+    | yes l ↦
+        let z : ◌≡◌ {A = Option ℕ} (Some (before names)) (Some i) = (rw (lt-ltb (before names) (length names) l) at e) in
+        let f : before names ≡ i = cc in
+        (omega (arith, f, at-name 1 names l), omega (arith, f, l))
+    | no l ↦ absurd (let z : ◌≡◌ {A = Option ℕ} None (Some i) = (rw (le-ltb (before names) (length names) (omega arith)) at e) in cc)
+  ]
 
 -- ---- by its name, or by its number
 

@@ -1,14 +1,18 @@
 -- A list at a byte, and a text cut into its first line and the rest. Assumes nothing.
 use mathlib.Core.Path.{◌≡◌, refl, sym, ap, ◌∙◌}
-use mathlib.Core.Bool.{Bool, true, false, cond}
+use mathlib.Core.Bool.{Bool, true, false, not, cond}
 use mathlib.Core.List.{List, [], ◌∷◌}
 use Prim.Native.Nat.{ℕ, suc, ◌+◌, ◌-◌, ◌≤◌, ◌<◌}
 use native.Mathlib.Omega.{arith}
 use native.Mathlib.Numerals.{add-one}
-use lib.Dec.{eqb}
+use native.Mathlib.Decide.{dec_lt}
+use lib.Dec.{eqb, ltb}
 use lib.ListN.{length, get_or, take, drop, length-take, length-drop, drop_of_length-le}
 use lib.Seq.{drop-cons, drop-drop, take-take, take_all}
-use borrow.Author.Tests.{eq-eqb, ne_eqb}
+use borrow.Author.Tests.{lt-ltb, le-ltb}
+use Rattle.std.specs.Prelude.{Some, None}
+use Rattle.std.specs.Option.{unwrap_or}
+use Rattle.std.specs.List.{prefix_len, position}
 use Rattle.text.specs.Text.{newline, hash, before, onto, lines}
 use Rattle.text.specs.Steps.{part, LineAt}
 
@@ -33,16 +37,36 @@ go : (b x : ℕ) (xs : List ℕ) → eqb x b ≡ false → before b (x ∷ xs) �
 unfolding before
 go b x xs e = ap (λ (t : Bool). cond t [] (x ∷ before b xs)) e
 
-module _ (s : List ℕ) (b i : ℕ) where
-  pub found : i < length s → get_or s i 0 ≡ b → length (before b (drop i s)) ≡ 0
-  found h e = ap (λ (l : List ℕ). length (before b l)) (cons_at s i h) ∙ ap length (stop b (get_or s i 0) (drop (i + 1) s) (eq-eqb (get_or s i 0) b e))
+-- the place of the first that is found, or the length where there is none
+pub place-or : (n k : ℕ) → n ≤ k → unwrap_or (cond (ltb n k) (Some n) None) k ≡ n
+place-or n k h = elim (dec_lt n k) [
+  | yes l ↦ rw (lt-ltb n k l) refl
+  | no l ↦ rw (le-ltb n k (omega arith)) (omega arith)
+]
 
-  pub passed : i < length s → (get_or s i 0 ≡ b → ⊥) → length (before b (drop i s)) ≡ suc (length (before b (drop (i + 1) s)))
-  passed h e = ap (λ (l : List ℕ). length (before b l)) (cons_at s i h) ∙ ap length (go b (get_or s i 0) (drop (i + 1) s) (ne_eqb (get_or s i 0) b e))
+passed : (b : ℕ) (s : List ℕ) → prefix_len (λ (x : ℕ). not (eqb x b)) s ≡ length (before b s)
+unfolding before
+passed b [] = refl
+passed b (x ∷ xs) = pick (eqb x b) (passed b xs)
+  where
+    pick : (t : Bool) → prefix_len (λ (y : ℕ). not (eqb y b)) xs ≡ length (before b xs)
+        → cond (not t) (1 + prefix_len (λ (y : ℕ). not (eqb y b)) xs) 0 ≡ length (cond t [] (x ∷ before b xs))
+    pick true e = refl
+    pick false e = omega arith
 
-  pub missing : length s ≤ i → length (before b (drop i s)) ≡ 0
-  unfolding before
-  missing h = ap (λ (l : List ℕ). length (before b l)) (end-at s i h)
+pub before-most : (b : ℕ) (s : List ℕ) → length (before b s) ≤ length s
+unfolding before
+before-most b [] = omega arith
+before-most b (x ∷ xs) = pick (eqb x b) (before-most b xs)
+  where
+    pick : (t : Bool) → length (before b xs) ≤ length xs → length (cond t [] (x ∷ before b xs)) ≤ suc (length xs)
+    pick true h = omega arith
+    pick false h = omega arith
+
+pub before-place : (b : ℕ) (s : List ℕ) → unwrap_or (position (λ (x : ℕ). eqb x b) s) (length s) ≡ length (before b s)
+before-place b s =
+    let e = passed b s in
+    place-or (prefix_len (λ (x : ℕ). not (eqb x b)) s) (length s) (omega (arith, e, before-most b s)) ∙ e
 
 front : (b x : ℕ) (xs : List ℕ) (t : Bool) → eqb x b ≡ t → take (length (before b xs)) xs ≡ before b xs
     → take (length (before b (x ∷ xs))) (x ∷ xs) ≡ before b (x ∷ xs)

@@ -4,11 +4,13 @@ use mathlib.Core.Bool.{Bool, true, false, not, cond}
 use mathlib.Core.List.{List, [], ◌∷◌}
 use Prim.Native.Nat.{ℕ, suc, ◌+◌, ◌-◌, ◌≤◌, ◌<◌}
 use native.Mathlib.Omega.{arith}
-use lib.ListN.{length, get_or, take, drop, length-drop}
+use lib.ListN.{length, take, drop, length-drop}
 use lib.Seq.{drop-drop}
+use Rattle.std.specs.Option.{unwrap_or}
+use Rattle.std.specs.List.{prefix_len, position}
 use Rattle.text.specs.Text.{blank, onto, ends, split}
 use Rattle.text.specs.Steps.{part, is_kind, leading, NextWord}
-use Rattle.text.proofs.Cuts.{cons_at, end-at, to_end}
+use Rattle.text.proofs.Cuts.{to_end, place-or}
 
 kind : (t : Bool) (x : ℕ) (xs : List ℕ) → is_kind t x ≡ true → leading t (x ∷ xs) ≡ suc (leading t xs)
 unfolding leading
@@ -18,16 +20,29 @@ other : (t : Bool) (x : ℕ) (xs : List ℕ) → is_kind t x ≡ false → leadi
 unfolding leading
 other t x xs e = ap (λ (u : Bool). cond u (suc (leading t xs)) 0) e
 
-module _ (s : List ℕ) (t : Bool) (i : ℕ) where
-  pub stops : i < length s → is_kind t (get_or s i 0) ≡ false → leading t (drop i s) ≡ 0
-  stops h e = ap (leading t) (cons_at s i h) ∙ other t (get_or s i 0) (drop (i + 1) s) e
+counted : (t : Bool) (s : List ℕ) → prefix_len (λ (x : ℕ). not (not (is_kind t x))) s ≡ leading t s
+unfolding leading
+counted t [] = refl
+counted t (x ∷ xs) = pick (is_kind t x) (counted t xs)
+  where
+    pick : (u : Bool) → prefix_len (λ (y : ℕ). not (not (is_kind t y))) xs ≡ leading t xs
+        → cond (not (not u)) (1 + prefix_len (λ (y : ℕ). not (not (is_kind t y))) xs) 0 ≡ cond u (suc (leading t xs)) 0
+    pick true e = omega arith
+    pick false e = refl
 
-  pub goes : i < length s → is_kind t (get_or s i 0) ≡ true → leading t (drop i s) ≡ suc (leading t (drop (i + 1) s))
-  goes h e = ap (leading t) (cons_at s i h) ∙ kind t (get_or s i 0) (drop (i + 1) s) e
+pub leading-most : (t : Bool) (s : List ℕ) → leading t s ≤ length s
+unfolding leading
+leading-most t [] = omega arith
+leading-most t (x ∷ xs) = pick (is_kind t x) (leading-most t xs)
+  where
+    pick : (u : Bool) → leading t xs ≤ length xs → cond u (suc (leading t xs)) 0 ≤ suc (length xs)
+    pick true h = omega arith
+    pick false h = omega arith
 
-  pub over : length s ≤ i → leading t (drop i s) ≡ 0
-  unfolding leading
-  over h = ap (leading t) (end-at s i h)
+pub leading-place : (t : Bool) (s : List ℕ) → unwrap_or (position (λ (x : ℕ). not (is_kind t x)) s) (length s) ≡ leading t s
+leading-place t s =
+    let e = counted t s in
+    place-or (prefix_len (λ (x : ℕ). not (not (is_kind t x))) s) (length s) (omega (arith, e, leading-most t s)) ∙ e
 
 -- ---- the first word
 

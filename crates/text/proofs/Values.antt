@@ -1,15 +1,16 @@
 -- Digits, numbers and words that are numbers. Assumes nothing.
 use mathlib.Core.Path.{◌≡◌, refl, sym, ap, ◌∙◌}
 use mathlib.Core.Bool.{Bool, true, false, ◌&&◌}
-use mathlib.Core.List.{List}
+use mathlib.Core.List.{List, [], ◌∷◌}
 use Prim.Native.Nat.{ℕ, ◌+◌, ◌-◌, ◌*◌, ◌^◌, ◌≤◌, ◌<◌}
 use native.Mathlib.Nat.{pow-succ', pow-le-pow_right}
 use native.Mathlib.Numerals.{add-one}
 use native.Mathlib.Omega.{arith}
-use lib.Dec.{leb, ltb}
+use lib.Dec.{ltb}
 use lib.ListN.{length, get_or, drop}
 use borrow.Author.Tests.{le-leb, lt-leb}
 use Rattle.walk.specs.Reflect.{Tells, both, le?, lt?}
+use Rattle.std.specs.List.{list_all}
 use Rattle.text.specs.Text.{split}
 use Rattle.text.specs.Numbers.{is_digit, all_digits, value, number, is_number, all_numbers}
 use Rattle.text.specs.Steps.{part, NextWord}
@@ -20,29 +21,18 @@ use Rattle.text.proofs.Cuts.{cons_at, end-at}
 pub digit? : {x : ℕ} → Tells (is_digit x) ((48 ≤ x) × (x ≤ 57))
 digit? = both le? le?
 
-pub below-digits : (x : ℕ) → x < 48 → false ≡ is_digit x
-below-digits x h = rw (lt-leb 48 x h) refl
-
-pub by_nine : (x : ℕ) → 48 ≤ x → leb x 57 ≡ is_digit x
-by_nine x h = rw (le-leb 48 x h) refl
-
 pub itself : {t : Bool} → Tells t (t ≡ true)
 itself = ((λ e. e), λ e. e)
+
+pub each-digit : (w : List ℕ) → list_all is_digit w ≡ all_digits w
+unfolding all_digits
+each-digit [] = refl
+each-digit (x ∷ xs) = ap (λ (t : Bool). is_digit x && t) (each-digit xs)
 
 module _ (w : List ℕ) (i : ℕ) where
   here : i < length w → all_digits (drop i w) ≡ is_digit (get_or w i 0) && all_digits (drop (i + 1) w)
   unfolding all_digits
   here h = ap all_digits (cons_at w i h)
-
-  pub no_digit : i < length w → is_digit (get_or w i 0) ≡ false → all_digits (drop i w) ≡ false
-  no_digit h e = here h ∙ ap (λ (t : Bool). t && all_digits (drop (i + 1) w)) e
-
-  pub a-digit : i < length w → is_digit (get_or w i 0) ≡ true → all_digits (drop i w) ≡ all_digits (drop (i + 1) w)
-  a-digit h e = here h ∙ ap (λ (t : Bool). t && all_digits (drop (i + 1) w)) e
-
-  pub digits-over : length w ≤ i → all_digits (drop i w) ≡ true
-  unfolding all_digits
-  digits-over h = ap all_digits (end-at w i h)
 
   -- where all from byte i on are digits, so is that one, and so are the others
   pub digit-here : i < length w → all_digits (drop i w) ≡ true → ((48 ≤ get_or w i 0) × (get_or w i 0 ≤ 57)) × (all_digits (drop (i + 1) w) ≡ true)

@@ -9,23 +9,13 @@ use crate::parts::next_word;
 pub fn is_digit(x: u8) -> bool
     ensures { result ≡ is_digit x }
 {
-    if x < b'0' {
-        return false;
-    }
-    x <= b'9'
+    x.is_ascii_digit()
 }
 
 pub fn all_digits(w: &[u8]) -> bool
     ensures { result ≡ all_digits w.now }
 {
-    let mut i = 0;
-    while i < w.len() {
-        if !is_digit(w[i]) {
-            return false;
-        }
-        i += 1;
-    }
-    true
+    w.iter().all(|x| is_digit(*x))
 }
 
 // The value of ten digits or fewer.
@@ -34,10 +24,8 @@ pub fn value(w: &[u8]) -> u64
     ensures { result ≡ Numbers.number w.now }
 {
     let mut v = 0;
-    let mut i = 0;
-    while i < w.len() {
-        v = 10 * v + (w[i] - b'0') as u64;
-        i += 1;
+    for x in w {
+        v = 10 * v + u64::from(*x - b'0');
     }
     v
 }
@@ -51,10 +39,7 @@ pub fn is_number(w: &[u8]) -> bool
     if w.len() > 10 {
         return false;
     }
-    if !all_digits(w) {
-        return false;
-    }
-    value(w) < 4294967296
+    all_digits(w) && value(w) < 4294967296
 }
 
 pub fn number(w: &[u8]) -> u32
@@ -69,16 +54,11 @@ pub fn all_numbers(s: &[u8]) -> bool
     ensures { result ≡ all_numbers (split s.now) }
 {
     let mut i = 0;
-    loop {
-        let p = next_word(s, i);
-        let a = p.0;
-        let e = p.1;
-        if a == e {
-            return true;
-        }
-        if !is_number(&s[a..e]) {
+    while let Some(word) = next_word(s, i) {
+        if !is_number(&s[word.start..word.end]) {
             return false;
         }
-        i = e;
+        i = word.end;
     }
+    true
 }

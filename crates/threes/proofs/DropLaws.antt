@@ -7,11 +7,18 @@ use native.Mathlib.Nat.{not-suc-le-zero, le_of_suc-le-suc}
 use native.Mathlib.Omega.{arith}
 use lib.ListN.{length, get_or, set, take, drop, replicate, length-take, length-drop, length-append, length-set, length-replicate}
 use lib.Seq.{take-take, drop-drop, get_or-take, get_or-drop}
+use borrow.Rule.Slice.PartMut.{put_mid}
+use Rattle.std.proofs.Math.Seq.{paste}
+use Rattle.std.proofs.lemmas.List.Edits.{paste_all, paste-paste}
+use Rattle.std.proofs.lemmas.List.{take_all}
+use Rattle.std.proofs.lemmas.Slice.{put_mid-paste}
+use Rattle.std.specs.List.{copy_within}
 use Rattle.memory.specs.Geometry.{page_words, page_of, directory_index}
 use Rattle.memory.specs.Words.{start, index, word, put, page, overwrite, fill}
 use Rattle.memory.specs.Partition.{directory, shadow1, shadow2, list}
 use Rattle.memory.proofs.Pages.{page-apart}
 use Rattle.memory.proofs.Widths.{words-least}
+use Rattle.moves.proofs.Parts.{part_of_page}
 use Rattle.rules.specs.Effects.{drop_three, three_place}
 use Rattle.threes.specs.Standing.{Listed, Standing, put_three, dropped}
 
@@ -81,23 +88,18 @@ drop-take (suc i) (suc n) (x ∷ l) =
     let z : n - i ≡ suc n - suc i = omega arith in
     drop-take i n l ∙ ap (λ (k : ℕ). take k (drop i l)) z
 
--- ---- words saved at the start of zeros, with six of them behind
-
-zeros-head : (k n : ℕ) → k ≤ n → take {A = ℕ} k (replicate n 0) ≡ replicate k 0
-zeros-head zero n h = refl
-zeros-head (suc k) zero h = absurd (not-suc-le-zero h)
-zeros-head (suc k) (suc n) h = ap (λ (l : List ℕ). 0 ∷ l) (zeros-head k n (le_of_suc-le-suc h))
-
-write-none : (l : List ℕ) → overwrite l 0 [] ≡ l
-write-none [] = refl
-write-none (x ∷ l) = refl
-
-behind : (n : ℕ) (ws : List ℕ) → length ws + 6 ≤ n → take (length ws + 6) (overwrite (replicate n 0) 0 ws) ≡ ws ++ replicate 6 0
-behind n [] h = ap (λ (l : List ℕ). take 6 l) (write-none (replicate n 0)) ∙ zeros-head 6 n h
-behind zero (w ∷ ws) h = absurd (not-suc-le-zero {n = length ws + 6} (omega arith))
-behind (suc n) (w ∷ ws) h =
-    let z : suc (length ws) + 6 ≡ suc (length ws + 6) = omega arith in
-    ap (λ (k : ℕ). take k (w ∷ overwrite (replicate n 0) 0 ws)) z ∙ ap (λ (l : List ℕ). w ∷ l) (behind n ws (omega arith))
+-- words put in the place of as many others
+pasted : (m : List ℕ) (s : ℕ) (ws : List ℕ) → s + length ws ≤ length m → take s m ++ (ws ++ drop (s + length ws) m) ≡ overwrite m s ws
+pasted [] zero [] h = refl
+pasted (x ∷ m) zero [] h = refl
+pasted [] zero (w ∷ ws) h = absurd (not-suc-le-zero {n = length ws} (omega arith))
+pasted (x ∷ m) zero (w ∷ ws) h =
+    let e : 0 + suc (length ws) ≡ suc (0 + length ws) = omega arith in
+    ap (λ (i : ℕ). w ∷ ws ++ drop i (x ∷ m)) e ∙ ap (λ (l : List ℕ). w ∷ l) (pasted m zero ws (omega arith))
+pasted [] (suc s) ws h = absurd (not-suc-le-zero {n = s + length ws} (omega arith))
+pasted (x ∷ m) (suc s) ws h =
+    let e : suc s + length ws ≡ suc (s + length ws) = omega arith in
+    ap (λ (i : ℕ). take (suc s) (x ∷ m) ++ (ws ++ drop i (x ∷ m))) e ∙ ap (λ (l : List ℕ). x ∷ l) (pasted m s ws (omega arith))
 
 -- ---- the list page
 
@@ -184,14 +186,36 @@ module _ (b : ℕ) (wide : 6 ≤ b) (m : List ℕ) (l j : ℕ) (h : Listed b m l
       sym (ap (overwrite m (start b l)) drop-is ∙ write-first m (start b l) (front ++ drop free ws) (free - 6) (omega (arith, length-all, long))
       ∙ ap₂ (λ (x : List ℕ) (i : ℕ). set x i (free - 6)) write-all (sym e))
 
-  -- the code's way: the later words saved in a buffer of zeros
-  pub drop-three-is : (f n : ℕ) (buf m₁ m₂ : List ℕ) → f ≡ free → n ≡ length (take (f - (7 + 6 * j)) (drop (7 + 6 * j) ws))
-      → buf ≡ overwrite (replicate 60 0) 0 (take (f - (7 + 6 * j)) (drop (7 + 6 * j) ws)) → m₁ ≡ overwrite m (index b l at) (take (n + 6) buf)
-      → m₂ ≡ put b m₁ l 0 (f - 6) → m₂ ≡ fill b m l (drop_three j ws)
-  drop-three-is f n buf m₁ m₂ hf hn hb h₁ h₂ =
-      let e : take (f - (7 + 6 * j)) (drop (7 + 6 * j) ws) ≡ later = ap (λ (x : ℕ). take (x - (7 + 6 * j)) (drop (7 + 6 * j) ws)) hf ∙ sym (drop-take (7 + 6 * j) free ws) in
-      let k : take (n + 6) buf ≡ moved = ap₂ (λ (x : ℕ) (y : List ℕ). take (x + 6) y) (hn ∙ ap length e) (hb ∙ ap (overwrite (replicate 60 0) 0) e) ∙ behind 60 later (omega (arith, length-later, h.few)) in
-      h₂ ∙ ap₂ (λ (x : List ℕ) (y : ℕ). put b x l 0 (y - 6)) (h₁ ∙ ap (overwrite m (index b l at)) k) hf ∙ moved-is
+  -- the code's way: the later words copied from a on to d, up to e, and zeros written behind them
+  module _ (f a d e : ℕ) (hf : f ≡ free) (ha : a ≡ index b l (7 + 6 * j)) (hd : d ≡ index b l at) (he : e ≡ index b l f) where
+    later-is : take (e - a) (drop a m) ≡ later
+    later-is =
+        part_of_page b m l (7 + 6 * j) (free - (7 + 6 * j)) a e (omega (arith, h.inside, h.few, h.three)) (omega (arith, h.inside, h.few, h.three)) (omega (arith, words-least b wide, h.few, h.three))
+        ∙ sym (drop-take (7 + 6 * j) free ws)
+
+    copied : copy_within m a e d ≡ paste m d later (e - a)
+    copied =
+        ap (λ (x : List ℕ). (take d m ++ x) ++ drop (d + (e - a)) m)
+        (later-is ∙ sym (take_all (e - a) later (omega (arith, length-later, h.few, h.three))))
+
+    lower-is : (zs : List ℕ) → zs ≡ replicate 6 0 → put_mid (e - 6) (e - (e - 6)) (copy_within m a e d) zs ≡ lower
+    lower-is zs hz =
+        let k : 6 ≡ e - (e - 6) = omega (arith, h.three) in
+        let g : e - 6 ≡ d + (e - a) = omega (arith, h.three) in
+        let n : e - a ≡ length later = omega (arith, length-later, h.few, h.three) in
+        let o : e - a + 6 ≡ length moved = omega (arith, length_moved, h.few, h.three) in
+        put_mid-paste (e - 6) (e - (e - 6)) (copy_within m a e d) zs (replicate 6 0) 6 hz k refl
+        ∙ ap₂ (λ (x : List ℕ) (i : ℕ). paste x i (replicate 6 0) 6) copied g
+        ∙ paste-paste m d later (replicate 6 0) (e - a) 6 n refl (omega (arith, h.inside, h.few, h.three))
+        ∙ paste_all m d moved (e - a + 6) o
+        ∙ ap (λ (i : ℕ). take d m ++ (moved ++ drop (d + i) m)) o
+        ∙ pasted m d moved (omega (arith, length_moved, h.inside, h.few, h.three))
+        ∙ ap (λ (i : ℕ). overwrite m i moved) hd
+
+    pub drop-three-is : (zs m₁ m₂ : List ℕ) → m₁ ≡ copy_within m a e d → zs ≡ replicate 6 0 → m₂ ≡ put b (put_mid (e - 6) (e - (e - 6)) m₁ zs) l 0 (f - 6)
+        → m₂ ≡ fill b m l (drop_three j ws)
+    drop-three-is zs m₁ m₂ h₁ hz h₂ =
+        h₂ ∙ ap₂ (λ (x : List ℕ) (y : ℕ). put b x l 0 (y - 6)) (ap (λ (x : List ℕ). put_mid (e - 6) (e - (e - 6)) x zs) h₁ ∙ lower-is zs hz) hf ∙ moved-is
 
 -- ---- the roots
 

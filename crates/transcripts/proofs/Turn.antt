@@ -51,10 +51,10 @@ module _ (bs : List ℕ) where
       rw (n, i, f) (begun 6 bs out s (put-again (put_same (ap (λ (x : ℕ). first_line x pages) e ∙ ap (first_line 6) w) p)))
 
   -- the record at byte i is done, and its line put
-  pub turn : {before m m' out wider : List ℕ} {n i i' k at next : ℕ} {a : Answer} → Walking 6 bs before n i k at m out → 0 < n
-      → a ≡ answer m (call_at bs i) → m' ≡ after m (call_at bs i) → Put out wider at next (line (k + 1) a) → i' ≡ next_record bs i
-      → Walking 6 bs before (n - 1) i' (k + 1) next m' wider
-  turn {before} {k = k} w h a s p e = rw (s, e) (goes_on 6 bs before w h (put_same (ap (line (k + 1)) a) p))
+  pub turn : {before m m' out wider : List ℕ} {n n' i i' k at next : ℕ} {a : Answer} → Walking 6 bs before n i k at m out → 0 < n
+      → a ≡ answer m (call_at bs i) → m' ≡ after m (call_at bs i) → Put out wider at next (line (k + 1) a) → i' ≡ next_record bs i → n' ≡ n - 1
+      → Walking 6 bs before n' i' (k + 1) next m' wider
+  turn {before} {k = k} w h a s p e q = rw (s, e, q) (goes_on 6 bs before w h (put_same (ap (line (k + 1)) a) p))
 
   -- the transcript is within the buffer
   pub fits : {before out : List ℕ} {at : ℕ} → Put before out 0 at (replay 6 bs) → 32768 ≤ length before → at ≤ length out

@@ -1,4 +1,4 @@
-// Room for a transcript, as `replay` takes it.
+// Room for a transcript, as `replay` takes it: an array with a length beside it, since fixed memory without a heap can't fail.
 ghost use Rattle.std.specs.Prelude.{◌≡◌, length};
 
 // No transcript is longer.

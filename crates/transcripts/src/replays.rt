@@ -26,14 +26,14 @@ fn most_words() -> [u32; 16384]
     [0; 16384]
 }
 
-// Formats m, a memory of N pages of the old edition, and runs the script on it.
+// Formats m, a memory of N pages of the old edition, which refuses no such memory, and runs the script on it.
 fn run(bytes: &[u8], m: &mut [u32], out: &mut [u8]) -> usize
     requires bytes_value { is_script (Replay.script 6 bytes.now) ≡ true }
     requires sized { length m.old ≡ word_in bytes.now 0 * 64 }
     requires room { 32768 ≤ length out.old }
     ensures { Put out.old out.new 0 result (Replay.replay 6 bytes.now) }
 {
-    format(m, 0);
+    let _ = format(m, 0);
     transcribe(bytes, m, out)
 }
 

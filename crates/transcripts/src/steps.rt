@@ -7,9 +7,10 @@ ghost use Rattle.script.specs.Walk.{whole_record, argument_at, call_at};
 ghost use Rattle.transcripts.specs.Held.{held_at, five_at};
 
 use answers::Answer;
-use kernel::{Called, by_number};
+use kernel::by_number;
 use record::word_in;
 use script::{argument, argument_count};
+use std::array;
 
 // Argument j of the call whose record starts at byte i, or 0 where the call has fewer.
 fn argument_or_zero(bytes: &[u8], i: usize, j: usize) -> u32
@@ -23,20 +24,15 @@ fn argument_or_zero(bytes: &[u8], i: usize, j: usize) -> u32
 }
 
 // The arguments of the record that starts at byte i: no call has more than five.
+#[tactic(auto, unfolding(crate::specs::Held::held))]
 fn arguments(bytes: &[u8], i: usize) -> [u32; 5]
     requires { whole_record bytes.now i ≡ true }
     ensures { result ≡ five_at bytes.now i }
 {
-    [
-        argument_or_zero(bytes, i, 0),
-        argument_or_zero(bytes, i, 1),
-        argument_or_zero(bytes, i, 2),
-        argument_or_zero(bytes, i, 3),
-        argument_or_zero(bytes, i, 4),
-    ]
+    array::from_fn(|j| argument_or_zero(bytes, i, j))
 }
 
-// The call of the record that starts at byte i. Its number is known, so that the last arm is never taken.
+// The call of the record that starts at byte i: its number is known.
 pub fn step(m: &mut [u32], bytes: &[u8], i: usize) -> Answer
     requires { whole_record bytes.now i ≡ true }
     ensures { (said result ≡ answer m.old (call_at bytes.now i))
@@ -44,9 +40,8 @@ pub fn step(m: &mut [u32], bytes: &[u8], i: usize) -> Answer
 {
     let n = word_in(bytes, i);
     let a = arguments(bytes, i);
-    let r = by_number(m, n, a);
-    match r {
-        Called::Answered(x) => x,
-        Called::Unknown => Answer::Done(0),
+    match by_number(m, n, a) {
+        Some(answer) => answer,
+        None => unreachable!(),
     }
 }

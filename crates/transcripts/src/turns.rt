@@ -11,7 +11,7 @@ use pages::width_of;
 use record::word_in;
 use script::{next_record, put_answer, put_first_line};
 
-// The first line, and then the records in turn on formatted memory m. n records are left, k are done.
+// The first line, and then the records in turn on formatted memory m.
 pub fn transcribe(bytes: &[u8], m: &mut [u32], out: &mut [u8]) -> usize
     requires bytes_value { is_script (Replay.script 6 bytes.now) ≡ true }
     requires formatted { m.old ≡ format 6 (word_in bytes.now 0) }
@@ -19,15 +19,12 @@ pub fn transcribe(bytes: &[u8], m: &mut [u32], out: &mut [u8]) -> usize
     ensures { Put out.old out.new 0 result (Replay.replay 6 bytes.now) }
 {
     let mut at = put_first_line(width_of(0), word_in(bytes, 0), out);
-    let mut n = word_in(bytes, 4);
+    let count = word_in(bytes, 4);
     let mut i = word_in(bytes, 8) as usize;
-    let mut k = 0;
-    while n > 0 {
+    for k in 0..count {
         let a = step(m, bytes, i);
-        k += 1;
-        at = put_answer(out, at, k, a);
+        at = put_answer(out, at, k + 1, a);
         i = next_record(bytes, i);
-        n -= 1;
     }
     at
 }

@@ -10,59 +10,59 @@ use native.Mathlib.Decide.{ℕ_discrete, dec_lt}
 use lib.Dec.{eqb}
 use lib.ListN.{length, get_or, set, replicate, get_or-replicate}
 use lib.Seq.{get_or-set_same, get_or-set_other}
-use borrow.Author.Tests.{eqb-true, ne_eqb, lt-ltb, le-ltb}
+use borrow.Author.Tests.{eqb-true, ne_eqb}
+use Rattle.std.proofs.Common.{Option, Some, None}
+use Rattle.std.specs.Option.{MatchOption}
 use Rattle.walk.specs.Finite.{from, from-once, below, all, keep, once, once?, One}
 use Rattle.walk.specs.Reflect.{Tells}
 use Rattle.memory.specs.Geometry.{page_words}
 use Rattle.memory.specs.Words.{word}
 use Rattle.memory.specs.Partition.{directory, list, threes}
 use Rattle.soundness.specs.Test.{stands}
-use Rattle.own_pages.specs.Asked.{links, listed_as, no_tables, index_test, indices_left, Skipped, First, Sole}
+use Rattle.own_pages.specs.Asked.{links, listed_as, no_tables, index_test, indices_left, Skipped, Never, First, Sole}
 use Rattle.own_pages.specs.Named.{WordsAt}
 use Rattle.own_pages.proofs.Laws.Tests.{and_fst, and_snd, fails}
 use Rattle.own_pages.proofs.Laws.Loops.{from_start, all-go-on, all_end, all-at, all_same, found-next, found-end}
 use Rattle.own_pages.proofs.Laws.Asked.{no-tables, index_wrong, index-none, index-some}
 
--- ---- the one place below n at which f holds, by the first at which it holds and the next
+-- what an option holds, said in other words
+pub told_as : {P S : Type 0} {Q R : ℕ → Type 0} (o : Option ℕ) → MatchOption o P Q → (P → S) → ((x : ℕ) → Q x → R x) → MatchOption o S R
+told_as None h f g = f h
+told_as (Some x) h f g = g x h
 
-pub passed-more : (f : ℕ → Bool) {i k : ℕ} → ((x : ℕ) → i ≤ x → x < k → f x ≡ false) → f k ≡ false → (x : ℕ) → i ≤ x → x < k + 1 → f x ≡ false
-passed-more f {i} {k} h e x a l = elim (dec_lt x k) [ yes c ↦ h x a c | no c ↦ (let q : x ≡ k = omega arith in ap f q ∙ e) ]
+-- ---- the one place below n at which f holds, by the first at which it holds and the next
 
 module _ (f : ℕ → Bool) (n : ℕ) where
   one? : Tells (once f (from n 0)) (One (λ x. (x < n) × (f x ≡ true)))
   one? = once? {P = λ x. f x ≡ true} {In = λ x. x < n} (from n 0) (below n) (from-once n 0) (λ x. ((λ q. q), λ q. q))
 
-  never : {i r : ℕ} → First f n i r → (x : ℕ) → i ≤ x → x < r → f x ≡ true → ⊥
-  never p x a l e = false≢true (sym (p.passed x a l) ∙ e)
+  never : {i r : ℕ} → Never f r i → (x : ℕ) → i ≤ x → x < r → f x ≡ true → ⊥
+  never p x a l e = false≢true (sym (p x a l) ∙ e)
 
-  not-sole : {r : ℕ} → r ≡ n → (One (λ x. (x < n) × (f x ≡ true)) → ⊥) → Sole f n r
-  not-sole {r} e h = record {
-    high = omega arith;
-    holds = λ l. absurd (omega arith);
-    sole = fails (once f (from n 0)) (λ t. h (one?.0 t)) ∙ sym (le-ltb r n (omega arith));
-  }
+  pub sole_none : Never f n 0 → once f (from n 0) ≡ false
+  sole_none p = fails (once f (from n 0)) (λ t. let (x, (l, h), u) = one?.0 t in never p x (omega arith) l h)
 
-  pub sole_none : {j r : ℕ} → First f n 0 j → n ≤ j → r ≡ n → Sole f n r
-  sole_none p h e = not-sole e (λ (x, (l, t), u). never p x (omega arith) (omega arith) t)
+  pub sole-two : {j k : ℕ} → First f n 0 j → First f n (j + 1) k → once f (from n 0) ≡ false
+  sole-two {j} {k} p q = fails (once f (from n 0)) (λ t.
+      let (x, z, u) = one?.0 t in
+      let s : j ≡ x = u j (p.1, p.2) in
+      let e : k ≡ x = u k (q.1, q.2) in
+      omega (arith, q.0))
 
-  module _ {j k : ℕ} (p : First f n 0 j) (h : j < n) (q : First f n (j + 1) k) where
-    pub sole-two : {r : ℕ} → k < n → r ≡ n → Sole f n r
-    sole-two l e = not-sole e (λ (x, z, u). let s : j ≡ x = u j (h, p.found h) in let t : k ≡ x = u k (l, q.found l) in omega (arith, q.low))
-
-    pub sole-one : n ≤ k → Sole f n j
-    sole-one l = record { high = omega arith; holds = p.found; sole = one?.1 (j, (h, p.found h), alone) ∙ sym (lt-ltb j n h) }
-      where
-        alone : (y : ℕ) → (y < n) × (f y ≡ true) → y ≡ j
-        alone y (a, t) = elim (ℕ_discrete y j) [
-          | yes e ↦ e
-          | no z ↦ elim (dec_lt y j) [ yes c ↦ absurd (never p y (omega arith) c t) | no c ↦ absurd (never q y (omega arith) (omega arith) t) ]
-        ]
+  pub sole-one : {j : ℕ} → First f n 0 j → Never f n (j + 1) → Sole f n j
+  sole-one {j} p q = record { high = p.1; holds = p.2; sole = one?.1 (j, (p.1, p.2), alone) }
+    where
+      alone : (y : ℕ) → (y < n) × (f y ≡ true) → y ≡ j
+      alone y (a, t) = elim (ℕ_discrete y j) [
+        | yes e ↦ e
+        | no z ↦ elim (dec_lt y j) [ yes c ↦ absurd (never p.3 y (omega arith) c t) | no c ↦ absurd (never q y (omega arith) a t) ]
+      ]
 
   -- and at no other
-  pub sole-other : {j : ℕ} → Sole f n j → j < n → (k : ℕ) → k < n → k ≢ j → f k ≡ false
-  sole-other {j} s h k l z =
-      let (x, q, u) = one?.0 (s.sole ∙ lt-ltb j n h) in
-      fails (f k) (λ t. let a : j ≡ x = u j (h, s.holds h) in let c : k ≡ x = u k (l, t) in z (c ∙ sym a))
+  pub sole-other : {j : ℕ} → Sole f n j → (k : ℕ) → k < n → k ≢ j → f k ≡ false
+  sole-other {j} s k l z =
+      let (x, q, u) = one?.0 s.sole in
+      fails (f k) (λ t. let a : j ≡ x = u j (s.high, s.holds) in let c : k ≡ x = u k (l, t) in z (c ∙ sym a))
 
 -- ---- what is left from index i on
 
@@ -153,8 +153,7 @@ module _ (b : ℕ) (m : List ℕ) (d : ℕ) (met : List ℕ) (i : ℕ) {w x y : 
     pub met-none : w ≡ 0 → indices_left b m d met i ≡ indices_left b m d met (i + 1)
     met-none z = left-same b m d met i r (sym (index-none b m d i h l z)) (sym h.in_directory ∙ z)
 
-    -- j is the place of the three with these words
-    module _ (z : w ≢ 0) {j : ℕ} (s : Sole (listed_as b m d w x y) (threes b m d) j) where
+    module _ (z : w ≢ 0) where
       asked : index_test b m d i ≡ once (listed_as b m d w x y) (from (threes b m d) 0)
       asked = sym (index-some b m d i h l z)
 
@@ -162,18 +161,19 @@ module _ (b : ℕ) (m : List ℕ) (d : ℕ) (met : List ℕ) (i : ℕ) {w x y : 
       unfolding stands listed_as
       there k = rw (h.in_directory, h.in_shadow1, h.in_shadow2) refl
 
-      pub met-unlisted : threes b m d ≤ j → indices_left b m d met i ≡ false
-      met-unlisted e = left_wrong b m d met i r (asked ∙ s.sole ∙ le-ltb j (threes b m d) e)
+      pub met-unlisted : once (listed_as b m d w x y) (from (threes b m d) 0) ≡ false → indices_left b m d met i ≡ false
+      met-unlisted e = left_wrong b m d met i r (asked ∙ e)
 
-      module _ (e : j < threes b m d) where
+      -- j is the place of the three with these words
+      module _ {j : ℕ} (s : Sole (listed_as b m d w x y) (threes b m d) j) where
         pub met-twice : get_or met j 0 ≢ 0 → indices_left b m d met i ≡ false
-        met-twice = left-twice b m d met i r j e (there j ∙ s.holds e)
+        met-twice = left-twice b m d met i r j s.high (there j ∙ s.holds)
 
         pub met-first : get_or met j 0 ≡ 0 → j < length met → indices_left b m d met i ≡ indices_left b m d (set met j 1) (i + 1)
-        met-first q c = left-go b m d met i r (asked ∙ s.sole ∙ lt-ltb j (threes b m d) e) (set met j 1) more
+        met-first q c = left-go b m d met i r (asked ∙ s.sole) (set met j 1) more
           where
             more : (k : ℕ) → k < threes b m d → get_or met k 0 + cond (stands b m d k i) 1 0 ≡ get_or (set met j 1) k 0
             more k g = elim (ℕ_discrete k j) [
-              | yes u ↦ rw (u, there j, s.holds e, q, get_or-set_same met j 1 0 c) refl
-              | no u ↦ rw (there k, sole-other (listed_as b m d w x y) (threes b m d) s e k g u, get_or-set_other met j k 1 0 u) (omega arith)
+              | yes u ↦ rw (u, there j, s.holds, q, get_or-set_same met j 1 0 c) refl
+              | no u ↦ rw (there k, sole-other (listed_as b m d w x y) (threes b m d) s k g u, get_or-set_other met j k 1 0 u) (omega arith)
             ]

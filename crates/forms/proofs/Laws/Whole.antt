@@ -17,28 +17,16 @@ use Rattle.own_pages.specs.Asked.{index_test, pair_form, pair_shut}
 use Rattle.own_pages.proofs.Laws.Tests.{and-false, and_fst, and_snd}
 use Rattle.own_pages.proofs.Laws.Loops.{all-at, all_same, all_join}
 
--- the words of page p are 0 from k on
-pub zero_as : (b : ℕ) (m : List ℕ) {r : Bool} {p q k l : ℕ} → p ≡ q → k ≡ l
-    → r ≡ all (λ i. not (leb k i) || eqb (word b m p i) 0) (from (page_words b) 0) → r ≡ all (λ i. not (leb l i) || eqb (word b m q i) 0) (from (page_words b) 0)
-zero_as b m {r} {q = q} {k = k} e f h =
-    h ∙ ap (λ (x : ℕ). all (λ i. not (leb k i) || eqb (word b m x i) 0) (from (page_words b) 0)) e
-    ∙ ap (λ (x : ℕ). all (λ i. not (leb x i) || eqb (word b m q i) 0) (from (page_words b) 0)) f
-
--- the pairs of a descriptor, and of a list
-pub descriptor-pairs : (b : ℕ) (m : List ℕ) (d : ℕ) → all (pair_form b m d 0) (from 5 0) ≡ all (λ j. virtual b (word b m d (2 * j)) && physical b m (word b m d (2 * j + 1))) (from 5 0)
+-- the pairs of a descriptor
+pub descriptor_pairs : (b : ℕ) (m : List ℕ) (d : ℕ) → all (pair_form b m d 0) (from 5 0) ≡ all (λ j. virtual b (word b m d (2 * j)) && physical b m (word b m d (2 * j + 1))) (from 5 0)
 unfolding pair_form
-descriptor-pairs b m d =
+descriptor_pairs b m d =
     all_same (pair_form b m d 0) (λ j. virtual b (word b m d (2 * j)) && physical b m (word b m d (2 * j + 1))) 5 0
     (λ j a l.
     let e : 0 + 2 * j ≡ 2 * j = omega arith in
     let q : 0 + 1 + 2 * j ≡ 2 * j + 1 = omega arith in
     ap (λ (x : ℕ). virtual b (word b m d x) && physical b m (word b m d (0 + 1 + 2 * j))) e
     ∙ ap (λ (x : ℕ). virtual b (word b m d (2 * j)) && physical b m (word b m d x)) q)
-
-pub list-pairs : (b : ℕ) (m : List ℕ) (d : ℕ) {r : Bool} {l n : ℕ} → l ≡ list b m d → n ≡ threes b m d → r ≡ all (pair_form b m l 1) (from (3 * n) 0)
-    → r ≡ all (λ j. virtual b (word b m (list b m d) (1 + 2 * j)) && physical b m (word b m (list b m d) (2 + 2 * j))) (from (3 * threes b m d) 0)
-unfolding pair_form
-list-pairs b m d {l = l} e q h = h ∙ ap (λ (x : ℕ). all (pair_form b m l 1) (from (3 * x) 0)) q ∙ ap (λ (x : ℕ). all (pair_form b m x 1) (from (3 * threes b m d) 0)) e
 
 -- the pairs of a child's descriptor c, and of its list l, in the tables of d: they agree, and are shut
 module _ (b : ℕ) (m : List ℕ) (d : ℕ) where

@@ -9,7 +9,7 @@ use native.Mathlib.Omega.{arith}
 use lib.Dec.{eqb}
 use borrow.Author.Tests.{eq-eqb, ne_eqb}
 use Rattle.walk.specs.Lists.{sum_of}
-use Rattle.walk.specs.Marks.{Seen, each, each-done, marks, answer}
+use Rattle.walk.specs.Marks.{Seen, each, each-done, marks}
 use Rattle.walk.specs.Walk as W
 use Rattle.memory.specs.Words.{word}
 use Rattle.memory.specs.Partition.{parent, threes, table_for}
@@ -34,13 +34,8 @@ pub alone-unmarked : (x : Bool) {o : Option Seen} → o ≡ none → cond x o no
 alone-unmarked true e = e
 alone-unmarked false e = refl
 
--- y is the code's answer to the test, t the marks
-pub alone-marked : {x y : Bool} {o : Option Seen} (t : Seen) → y ≡ x → o ≡ some t → cond x o none ≡ answer y t
-alone-marked {x} {y} {o} t e q = ap (λ (z : Bool). cond z o none) (sym e) ∙ go y
-  where
-    go : (z : Bool) → cond z o none ≡ answer z t
-    go true = q
-    go false = refl
+pub alone-marked : {x : Bool} {o u : Option Seen} → x ≡ true → o ≡ u → cond x o none ≡ u
+alone-marked {o = o} e q = ap (λ (y : Bool). cond y o none) e ∙ q
 
 -- then with them: n is the code's number of the pages mapped, r its answer to the test of the cells
 module _ (b : ℕ) (m : List ℕ) (k : ℕ) (s : Seen) (d : ℕ) where

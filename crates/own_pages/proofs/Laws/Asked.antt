@@ -1,5 +1,5 @@
 -- What is asked at an index and of a pair, in the code's terms. Assumes nothing.
-use mathlib.Core.Path.{◌≡◌, refl, sym, ap, ◌∙◌}
+use mathlib.Core.Path.{◌≡◌, refl, sym, ap, subst, ◌∙◌}
 use mathlib.Core.List.{List}
 use mathlib.Core.Bool.{Bool, true, false, not, ◌&&◌, ◌||◌}
 use mathlib.Core.Logic.{◌≢◌}
@@ -13,7 +13,7 @@ use Rattle.walk.specs.Finite.{from, all, once}
 use Rattle.memory.specs.Geometry.{page_words, address, page_of}
 use Rattle.memory.specs.Words.{word}
 use Rattle.memory.specs.Entry.{accessible}
-use Rattle.memory.specs.Partition.{directory, shadow1, shadow2, list, threes, table_word, mapping, lent}
+use Rattle.memory.specs.Partition.{directory, shadow1, shadow2, threes, table_word, mapping, lent}
 use Rattle.soundness.specs.Test.{virtual, physical, table_link, directory_test, stands, agrees, shut_at}
 use Rattle.own_pages.specs.Asked.{links, listed_as, no_tables, index_test, Skipped, pair_form, pair_shut}
 use Rattle.own_pages.specs.Named.{WordsAt}
@@ -32,10 +32,6 @@ module _ (b : ℕ) (m : List ℕ) (w x y : ℕ) where
   pub links-none : w ≡ 0 → links b m w x y ≡ eqb x 0 && eqb y 0
   unfolding links table_link
   links-none e = rw (eq-eqb w 0 e) (covered (eqb x 0) (eqb y 0) _ _)
-
-  pub links-some : w ≢ 0 → links b m w x y ≡ table_link b m w && table_link b m x && table_link b m y && (not (eqb x 0) && not (eqb y 0))
-  unfolding links
-  links-some n = rw (ne_eqb w 0 n) refl
 
 -- w, x and y are the words of index i of d's directory and shadows
 module _ (b : ℕ) (m : List ℕ) (d i : ℕ) {w x y : ℕ} (h : WordsAt b m d i w x y) where
@@ -84,15 +80,10 @@ module _ (b : ℕ) (m : List ℕ) (d : ℕ) where
       pick x a l (yes c) = all-at (no_tables b m d) (k - i) i s.empty x a (omega (arith, s.low))
       pick x a l (no c) = all-at (no_tables b m d) n k e x (omega arith) (omega (arith, s.low))
 
-  pub skip-one : {i k : ℕ} → Skipped b m d i k → k < page_words b → no_tables b m d k ≡ true → Skipped b m d i (k + 1)
-  skip-one {i} {k} s h e = skip_by 1 s (omega arith) (all_yes (no_tables b m d) 1 k (λ x a l. let q : x ≡ k = omega arith in ap (no_tables b m d) q ∙ e))
-
--- ---- a three of the list: u, v and z are the words with which it stands
-
-module _ (b : ℕ) (m : List ℕ) (d j : ℕ) {u v z : ℕ} (e : u ≡ word b m (list b m d) (2 + 6 * j) + 1) (q : v ≡ word b m (list b m d) (4 + 6 * j) + 1) (s : z ≡ word b m (list b m d) (6 + 6 * j) + 1) where
-  pub listed-as : (w x y : ℕ) → eqb w u && eqb x v && eqb y z ≡ listed_as b m d w x y j
-  unfolding listed_as
-  listed-as w x y = rw (e, q, s) refl
+  pub skip_run : {i k r : ℕ} → Skipped b m d i k → k ≤ r → r ≤ page_words b → ((x : ℕ) → k ≤ x → x < r → no_tables b m d x ≡ true) → Skipped b m d i r
+  skip_run {i} {k} {r} s l h e =
+      let q : k + (r - k) ≡ r = omega arith in
+      subst (Skipped b m d i) q (skip_by (r - k) s (omega arith) (all_yes (no_tables b m d) (r - k) k (λ x a c. e x a (omega arith))))
 
 -- ---- a pair: v and a are its words
 

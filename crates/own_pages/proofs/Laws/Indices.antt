@@ -4,7 +4,7 @@ use mathlib.Core.List.{List}
 use Prim.Native.Nat.{ℕ, ◌+◌, ◌*◌}
 use native.Mathlib.Omega.{arith}
 use lib.ListN.{get_or}
-use Rattle.memory.specs.Geometry.{page_words, address}
+use Rattle.memory.specs.Geometry.{address}
 use Rattle.memory.specs.Words.{word, index}
 
 -- an address by the index of a page's first word
@@ -17,9 +17,3 @@ word_by_index b m {i = i} {q = q} j e f g =
     let k : i ≡ index b q 0 = f ∙ ap (λ (x : ℕ). index b x 0) g in
     let l : i + j ≡ index b q j = omega arith in
     e ∙ ap (λ (x : ℕ). get_or m x 0) l
-
--- the words of n pages
-pub pages-long : (b : ℕ) {i p n : ℕ} → i ≡ index b p 0 → p ≡ n → i ≡ n * page_words b
-pages-long b {i = i} {n = n} e q =
-    let k : i ≡ index b n 0 = e ∙ ap (λ (x : ℕ). index b x 0) q in
-    omega arith

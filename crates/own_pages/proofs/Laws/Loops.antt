@@ -5,10 +5,21 @@ use mathlib.Core.Bool.{Bool, true, false, cond, not, ◌&&◌, ◌||◌}
 use Prim.Native.Nat.{ℕ, zero, suc, ◌+◌, ◌-◌, ◌≤◌, ◌<◌}
 use native.Mathlib.Omega.{arith}
 use lib.Dec.{leb}
-use lib.ListN.{length}
+use Rattle.std.specs.Fn.{Called}
+use Rattle.std.specs.Iterator.{YieldsThen}
+use Rattle.std.specs.List.{FoldsTo, list_all, range_with_len}
+use Rattle.std.specs.Option.{MatchOption}
+use Rattle.std.specs.declared.ops.Range.{Range}
+use Rattle.std.proofs.Common.{Option}
+use Rattle.std.proofs.iter.Yields.{nat_range_steps}
+use Rattle.std.proofs.lemmas.Iterator.{YieldsList-from_range}
+use Rattle.std.proofs.lemmas.Iterator.Search.{all_from_yields_List}
+use denote.Param.Members.{Mut}
+use lib.ListN.{length, get_or, take, drop}
+use Rattle.std.proofs.Common.{drop-cons}
 use borrow.Author.Tests.{le-leb, lt-leb}
 use Rattle.walk.specs.Finite.{from, from_in, in_from, all, all?, keep}
-use Rattle.own_pages.proofs.Laws.Tests.{yes, no, and_assoc, and_swap}
+use Rattle.own_pages.proofs.Laws.Tests.{and_assoc, and_swap}
 
 from_next : (n i : ℕ) → i < n → from (n - i) i ≡ i ∷ from (n - (i + 1)) (i + 1)
 unfolding from
@@ -28,24 +39,33 @@ pub all-go-on : (f : ℕ → Bool) (n i : ℕ) → i < n → all f (from (n - i)
 unfolding all
 all-go-on f n i h = ap (all f) (from_next n i h)
 
--- f at each: o is what the whole comes to, x what the code was told at i
+-- f at each: o is what the whole comes to
 module _ {o : Bool} (f : ℕ → Bool) (n i : ℕ) where
-  pub all_start : o ≡ all f (from n 0) → i ≡ 0 → o ≡ all f (from (n - i) i)
-  all_start v e = v ∙ ap (all f) (from_start n) ∙ ap (λ (j : ℕ). all f (from (n - j) j)) (sym e)
-
-  pub all_go : {x : Bool} → i < n → x ≡ f i → not x ≡ false → o ≡ all f (from (n - i) i) → o ≡ all f (from (n - (i + 1)) (i + 1))
-  unfolding all
-  all_go h e t v = v ∙ ap (all f) (from_next n i h) ∙ rw (yes e t) refl
-
-  pub all-stop : {x : Bool} → i < n → x ≡ f i → not x ≡ true → o ≡ all f (from (n - i) i) → false ≡ o
-  unfolding all
-  all-stop h e t v = sym (v ∙ ap (all f) (from_next n i h) ∙ rw (no e t) refl)
-
   pub all_end : n ≤ i → o ≡ all f (from (n - i) i) → true ≡ o
   unfolding all
   all_end h v = sym (v ∙ ap (all f) (from_end n i h))
 
 -- ---- the whole at once
+
+-- the first items of a list, by their places
+pub all_items : (f : ℕ → Bool) (xs : List ℕ) (n i : ℕ) → i + n ≤ length xs → list_all f (take n (drop i xs)) ≡ all (λ j. f (get_or xs j 0)) (from n i)
+unfolding all from
+all_items f xs zero i h = refl
+all_items f xs (suc n) i h =
+    let l : i < length xs = omega arith in
+    rw (drop-cons xs i 0) (ap (λ (t : Bool). f (get_or xs i 0) && t) (all_items f xs n (suc i) (omega arith)))
+
+-- the numbers from i on, as a range yields them
+all_ranged : (f : ℕ → Bool) (n i : ℕ) → list_all f (range_with_len i n) ≡ all f (from n i)
+unfolding all from
+all_ranged f zero i = refl
+all_ranged f (suc n) i = let e : i + 1 ≡ suc i = omega arith in ap (λ (t : Bool). f i && t) (ap (λ (x : ℕ). list_all f (range_with_len x n)) e ∙ all_ranged f n (suc i))
+
+-- what `all` over the numbers below n answers, where its closure tests f
+pub all_over : {F : Type 0} {g : Mut F (ℕ × Unit {0}) Bool} {s u : Range ℕ} {j : F} {r : Bool} (f : ℕ → Bool) (n : ℕ)
+    → (xs : List ℕ) × (o : Option ℕ) × (k : F) × YieldsThen nat_range_steps s xs o u × FoldsTo (λ p x q. Called g p (x, tt) true q) j xs k × MatchOption o (r ≡ true) (λ x. (r ≡ false) × ((h : F) × Called g k (x, tt) false h))
+    → s ≡ record { start = 0; end = n } → ((x : ℕ) (b : Bool) (q : F) → Called g j (x, tt) b q → (q ≡ j) × (b ≡ f x)) → r ≡ all f (from n 0)
+all_over {u = u} {j} {r} f n ran e told = all_from_yields_List f u j r ran (YieldsList-from_range 0 n n e (omega arith)) told ∙ all_ranged f n 0
 
 module _ (f : ℕ → Bool) (n i : ℕ) where
   pub all-at : all f (from n i) ≡ true → (x : ℕ) → i ≤ x → x < i + n → f x ≡ true
@@ -91,11 +111,12 @@ all_rest f g k n h same =
     rest i = not (leb k i) || g i
 
 module _ (f g : ℕ → Bool) (k n : ℕ) (h : k ≤ n) (same : (i : ℕ) → k ≤ i → i < n → f i ≡ g i) where
-  pub rest-stop : false ≡ all f (from k 0) → false ≡ all f (from n 0)
-  rest-stop e = sym (all_rest f g k n h same ∙ rw (← e) refl)
+  -- r is what the first k come to, s what the rest does
+  pub rest-stop : {r : Bool} → r ≡ all f (from k 0) → r ≡ false → r ≡ all f (from n 0)
+  rest-stop e t = t ∙ sym (all_rest f g k n h same ∙ rw (← e, t) refl)
 
-  pub rest_end : {r : Bool} → true ≡ all f (from k 0) → r ≡ all (λ i. not (leb k i) || g i) (from n 0) → r ≡ all f (from n 0)
-  rest_end e q = q ∙ sym (all_rest f g k n h same ∙ rw (← e) refl)
+  pub rest_end : {r s : Bool} → r ≡ all f (from k 0) → r ≡ true → s ≡ all (λ i. not (leb k i) || g i) (from n 0) → s ≡ all f (from n 0)
+  rest_end e t q = q ∙ sym (all_rest f g k n h same ∙ rw (← e, t) refl)
 
 -- ---- how often f holds from i on
 

@@ -2,9 +2,9 @@
 use mathlib.Core.Path.{◌≡◌, refl, sym, ◌∙◌}
 use mathlib.Core.Bool.{Bool, true, false, not, ◌&&◌, false≢true}
 use mathlib.Core.Logic.{◌≢◌}
-use Prim.Native.Nat.{ℕ, ◌≤◌, ◌<◌}
+use Prim.Native.Nat.{ℕ}
 use lib.Dec.{leb, ltb, eqb}
-use borrow.Author.Tests.{not-true, not-false, le-leb, lt-leb, eq-eqb, ne_eqb}
+use borrow.Author.Tests.{not-true, not-false, eq-eqb, ne_eqb}
 
 pub yes : {x f : Bool} → x ≡ f → not x ≡ false → f ≡ true
 yes {x} e t = sym e ∙ not-false x t
@@ -24,12 +24,6 @@ module _ {x y u v : ℕ} (e : x ≡ u) (q : y ≡ v) where
 
   pub same-leb : leb x y ≡ leb u v
   same-leb = rw (e, q)
-
-  pub within : x ≤ y → leb u v ≡ true
-  within h = sym same-leb ∙ le-leb x y h
-
-  pub beyond : y < x → leb u v ≡ false
-  beyond h = sym same-leb ∙ lt-leb x y h
 
   pub same-ltb : ltb x y ≡ ltb u v
   same-ltb = rw (e, q)

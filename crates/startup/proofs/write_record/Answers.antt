@@ -2,7 +2,7 @@
 use Rattle.startup.proofs.write_record.Goals as goal
 
 pub write-requires : goal.write-requires
-write-requires c = record { width = c.width-b.ensures.1; tested = rw c.width-b.ensures.0 c.is_sound-good.ensures }
+write-requires c = record { tested = rw c.width-b.ensures c.is_sound-good.ensures }
 
 pub returns : goal.returns
-returns c = rw c.width-b.ensures.0 at c.write.ensures
+returns c = rw c.width-b.ensures at c.write.ensures

@@ -8,10 +8,24 @@ use native.Mathlib.Omega.{arith}
 use native.Mathlib.Decide.{dec_lt}
 use lib.ListN.{length}
 use borrow.Author.Tests.{not-true, not-false}
+use Rattle.std.specs.Int.{from_bool}
 use Rattle.walk.specs.Lists.{flat, sum_of}
 use Rattle.walk.specs.Finite.{from, all, keep, image}
 use Rattle.walk.specs.Marks.{Seen, and_then, each}
 use Rattle.tally.specs.Run.{run, adding, asking, marking, bit}
+
+-- a test as a number: what `u32::from` makes of it
+pub bit_is : {r : ℕ} {x f : Bool} → r ≡ from_bool x → x ≡ f → r ≡ bit f
+bit_is {f = true} e q = e ∙ ap from_bool q
+bit_is {f = false} e q = e ∙ ap from_bool q
+
+pub from-most : (x : Bool) → from_bool x ≤ 1
+from-most true = omega arith
+from-most false = omega arith
+
+pub bit-most : (f : Bool) → bit f ≤ 1
+bit-most true = omega arith
+bit-most false = omega arith
 
 from_next : (k i : ℕ) → i < k → from (k - i) i ≡ i ∷ from (k - (i + 1)) (i + 1)
 unfolding from

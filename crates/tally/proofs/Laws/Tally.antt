@@ -17,7 +17,7 @@ use Rattle.own_pages.proofs.Laws.Tests.{and-false}
 use Rattle.tally.specs.Run.{run, adding, marking, bit}
 use Rattle.tally.specs.Rows.{shut_words, hand_words, due_words}
 use Rattle.tally.specs.Bits.{marks_in}
-use Rattle.tally.proofs.Laws.Run.{run-start, run-next, run-skip}
+use Rattle.tally.proofs.Laws.Run.{bit-most, run-start, run-next, run-skip}
 use Rattle.tally.proofs.Laws.Rows.{used-end}
 use Rattle.tally.proofs.Laws.Walks.{step_is, walk-stop}
 
@@ -108,9 +108,9 @@ module _ (b : ℕ) (m pt s1 : List ℕ) where
           ap (λ (y : ℕ). cond (hand_words y (get_or s1 j 0)) (mark (marks_in seen) (page_of b y)) (some (marks_in seen))) (sym ew)
           ∙ ap (λ (y : ℕ). cond (hand_words w y) (mark (marks_in seen) (page_of b w)) (some (marks_in seen))) (sym ex) ∙ marked
 
-      pub tally_next : {seen' : List ℕ} {shut' due' s d : ℕ} → seen' ≡ last → shut' ≡ shut + s → due' ≡ due + d → (s ≡ bit (shut_words w x)) × (s ≤ 1)
+      pub tally_next : {seen' : List ℕ} {shut' due' s d : ℕ} → seen' ≡ last → shut' ≡ shut + s → due' ≡ due + d → s ≡ bit (shut_words w x)
           → (d ≡ due_words b m w x) × (d ≤ 12884901893) → length last ≡ length seen → not r ≡ false → Tallied first seen' (mapped + 1) shut' due' (j + 1)
-      tally_next n us ud (es, hs) (ed, hd) same y =
+      tally_next n us ud es (ed, hd) same y =
           let one : bit (not (eqb (get_or pt j 0) 0)) ≡ 1 = ap (λ (q : Bool). bit (not q)) (ne_eqb (get_or pt j 0) 0 (λ z. there (ew ∙ z))) in
           let shuts : bit (shut_words w x) ≡ bit (shut_words (get_or pt j 0) (get_or s1 j 0)) = ap (λ (q : ℕ). bit (shut_words q x)) ew ∙ ap (λ (q : ℕ). bit (shut_words (get_or pt j 0) q)) ex in
           let dues : due_words b m w x ≡ due_words b m (get_or pt j 0) (get_or s1 j 0) = ap (λ (q : ℕ). due_words b m q x) ew ∙ ap (λ (q : ℕ). due_words b m (get_or pt j 0) q) ex in
@@ -118,7 +118,7 @@ module _ (b : ℕ) (m pt s1 : List ℕ) where
             inside = omega arith;
             same_length = ap length n ∙ same ∙ t.same_length;
             mapped_most = omega (arith, t.mapped_most);
-            shut_most = omega (arith, t.shut_most);
+            shut_most = omega (arith, t.shut_most, bit-most (shut_words w x));
             due_most = omega (arith, t.due_most);
             mapped_run = next mapped_step mapped l (ap (λ (q : ℕ). mapped + q) (sym one)) t.mapped_run;
             shut_run = next shut_step shut l (us ∙ ap (λ (q : ℕ). shut + q) (es ∙ shuts)) t.shut_run;
@@ -138,7 +138,7 @@ module _ (b : ℕ) (m pt s1 : List ℕ) where
         let free : eqb x 0 ≡ false = ne_eqb x 0 (omega arith) in
         let child : eqb x 1 ≡ false = ne_eqb x 1 (omega arith) in
         tally_next true seen l ew ex there (rw (ne_eqb w 0 there, free, and-false (eqb (accessible w) 1)) refl) {s = 0} {d = 0} n (omega arith) (omega arith)
-        (rw (ne_eqb w 0 there, lt-leb x 1 lent) refl, omega arith) (rw (ne_eqb w 0 there, child) refl, omega arith) refl refl
+        (rw (ne_eqb w 0 there, lt-leb x 1 lent) refl) (rw (ne_eqb w 0 there, child) refl, omega arith) refl refl
 
     -- at the end of the row
     module _ (l : length pt ≤ j) where

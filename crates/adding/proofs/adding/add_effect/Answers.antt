@@ -5,6 +5,6 @@ use Rattle.adding.proofs.adding.add_effect.Goals as goal
 pub returns : goal.returns
 returns c =
     let s = c.args in
-    add_is s.b s.m.now s.p s.c s.t s.r
+    add_is s.b.bits s.m.now s.p s.c s.t s.r
     c.current-d.ensures c.child_of-k.ensures c.mapping.ensures c.entry_of-w.ensures c.set_mapping.ensures c.set_above.ensures
     c.set_lent.ensures

@@ -1,6 +1,7 @@
 -- `assembly::assembling::read_calls` meets its contract. The records so far and the lines left make the whole. The measure is the text left. Assumes nothing.
 use native.Mathlib.Omega.{arith}
 use borrow.Author.Rules.{rules}
+use Rattle.assembly.proofs.Reasons.{number-some}
 use Rattle.assembly.proofs.Runs.{reading, stops, goes_on, headed}
 use Rattle.assembly.proofs.assembling.read_calls.Goals as goal
 
@@ -14,38 +15,23 @@ loop-i-init c = (
   search rules,
 )
 
-pub returns-then-why-ne0 : goal.returns-then-why-ne0
-returns-then-why-ne0 c =
-    let p = c.loop-i in
-    let line = c.line_at-p in
-    let s = c.args in (
-      stops s.text.now s.out.now s.n p.invariant.0
-          line.ensures c.read_line-r.ensures c.if-why-ne0.true,
-      search rules,
-    )
+pub returns-in-Err : goal.returns-in-Err
+returns-in-Err c =
+    let s = c.args in
+    (rw c.number.ensures (stops s.text.now s.out.now s.n c.loop-i.invariant.0 c.line_at-line.ensures c.in-Err.ensures (number-some c.in-Err.why)), search rules)
 
 pub overflow_add-count : goal.overflow_add-count
-overflow_add-count c = omega (arith, c.read_line-r.ensures.few)
+overflow_add-count c = omega (arith, c.in-Ok.ensures.few)
 
 pub loop-i-smaller : goal.loop-i-smaller
-loop-i-smaller c =
-    let line = c.line_at-p in
-    omega (
-      arith,
-      line.ensures.after,
-      line.ensures.order,
-      line.ensures.within,
-    )
+loop-i-smaller c = let l = c.line_at-line.ensures in omega (arith, l.after, l.order, l.within)
 
 pub loop-i-preserved : goal.loop-i-preserved
 loop-i-preserved c =
-    let p = c.loop-i in
-    let line = c.line_at-p in
     let s = c.args in
-    let l = line.ensures in
-    let r = c.read_line-r.ensures in (
-      goes_on s.text.now s.out.now s.n p.invariant.0 l r
-          c.if-why-ne0.false,
+    let l = c.line_at-line.ensures in
+    let r = c.in-Ok.ensures in (
+      goes_on s.text.now s.out.now s.n c.loop-i.invariant.0 l r,
       omega (arith, l.within),
       omega (arith, l.after, l.order),
       omega (arith, l.after, l.order, r.few),
@@ -54,9 +40,7 @@ loop-i-preserved c =
     )
 
 pub returns : goal.returns
-returns c =
-    let p = c.loop-i in (
-      headed c.args.text.now c.args.out.now c.args.n p.invariant.0 (omega arith) (omega arith)
-          c.put_header.ensures,
-      search rules,
-    )
+returns c = (
+  headed c.args.text.now c.args.out.now c.args.n c.loop-i.invariant.0 (omega arith) (omega arith) c.put_header.ensures,
+  search rules,
+)

@@ -5,8 +5,8 @@ use lib.ListN.{length}
 use Rattle.assembly.proofs.Records.{Putting}
 use Rattle.assembly.proofs.calls.put_numbers.Given as goal
 
-abbrev pub invariant-loop-at : goal.invariant-loop-at
-invariant-loop-at l = Putting l.s l.initial.out l.out l.at l.to l.i × (l.i ≤ length l.s) × (length l.out ≡ length l.initial.out)
+abbrev pub invariant-loop-word : goal.invariant-loop-word
+invariant-loop-word l = Putting l.s l.initial.out l.out l.at l.to l.i × (l.i ≤ length l.s) × (length l.out ≡ length l.initial.out)
 
-abbrev pub decreases-loop-at : goal.decreases-loop-at
-decreases-loop-at l = length l.s - l.i
+abbrev pub decreases-loop-word : goal.decreases-loop-word
+decreases-loop-word l = length l.s - l.i

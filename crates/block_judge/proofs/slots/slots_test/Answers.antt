@@ -1,6 +1,6 @@
 -- `block_judge::slots::slots_test` meets its contract. What is left of the numbers passes where all of them do. Assumes nothing.
 use mathlib.Core.Bool.{not}
-use mathlib.Core.Path.{◌≡◌, refl, ap, ◌∙◌}
+use mathlib.Core.Path.{◌≡◌, ap, ◌∙◌}
 use Prim.Native.Nat.{ℕ, ◌+◌, ◌*◌}
 use native.Mathlib.Omega.{arith}
 use Rattle.walk.specs.Finite.{all}
@@ -9,14 +9,12 @@ use Rattle.block_memory.proofs.Loops.{left, all_end}
 use Rattle.block_judge.proofs.Eights.{slot_or, part-fails, part-passes}
 use Rattle.block_judge.proofs.slots.slots_test.Goals as goal
 
-pub loop-k-init : goal.loop-k-init
-loop-k-init c = refl
-
 pub returns-then-not-structure_slots_test : goal.returns-then-not-structure_slots_test
 returns-then-not-structure_slots_test c =
     let l = c.loop-k in
     let s = c.args in
-    part-fails (slot_or s.m.now s.d) 136 8 (8 * l.k) (omega arith) (fails c.structure_slots_test.ensures (ap not c.if-not-structure_slots_test.true)) ∙ l.invariant
+    part-fails (slot_or s.m.now s.d) 136 8 (8 * l.k) (omega arith)
+    (fails c.structure_slots_test.ensures (ap not c.if-not-structure_slots_test.true)) ∙ l.invariant
 
 pub loop-k-preserved : goal.loop-k-preserved
 loop-k-preserved c =
@@ -24,7 +22,8 @@ loop-k-preserved c =
     let s = c.args in
     let next : 8 * (l.k + 1) ≡ 8 * l.k + 8 = omega arith in
     ap (λ (n : ℕ). all (slot_or s.m.now s.d) (left 136 n)) next
-    ∙ part-passes (slot_or s.m.now s.d) 136 8 (8 * l.k) (omega arith) (passes c.structure_slots_test.ensures (ap not c.if-not-structure_slots_test.false)) ∙ l.invariant
+    ∙ part-passes (slot_or s.m.now s.d) 136 8 (8 * l.k) (omega arith)
+    (passes c.structure_slots_test.ensures (ap not c.if-not-structure_slots_test.false)) ∙ l.invariant
 
 pub returns : goal.returns
 returns c =

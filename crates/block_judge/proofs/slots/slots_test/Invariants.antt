@@ -1,6 +1,6 @@
 -- `block_judge::slots::slots_test` meets its contract. What is left of the numbers passes where all of them do. Assumes nothing.
 use mathlib.Core.Path.{◌≡◌}
-use Prim.Native.Nat.{◌*◌, ◌-◌}
+use Prim.Native.Nat.{◌*◌}
 use Rattle.walk.specs.Finite.{all}
 use Rattle.block_memory.specs.Partition.{numbers}
 use Rattle.block_memory.proofs.Loops.{left}
@@ -9,6 +9,3 @@ use Rattle.block_judge.proofs.slots.slots_test.Given as goal
 
 abbrev pub invariant-loop-k : goal.invariant-loop-k
 invariant-loop-k l = all (slot_or l.m l.d) (left 136 (8 * l.k)) ≡ all (slot_or l.m l.d) numbers
-
-abbrev pub decreases-loop-k : goal.decreases-loop-k
-decreases-loop-k l = 17 - l.k

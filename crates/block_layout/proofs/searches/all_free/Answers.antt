@@ -1,27 +1,13 @@
--- `block_layout::searches::all_free` meets its contract: the slots that are left are free where all are. Assumes nothing.
-use mathlib.Core.Path.{refl, ◌∙◌}
-use native.Mathlib.Omega.{arith}
-use Rattle.block_memory.proofs.Loops.{all-stop, all-next, all_end}
-use Rattle.block_layout.proofs.Finding.{is-so, isn't-so, free_in}
+-- `block_layout::searches::all_free` meets its contract. Assumes nothing.
+use Rattle.std.proofs.Common.{refl, rules, tests}
+use Rattle.std.proofs.lemmas.Iterator.{YieldsList-from_range}
+use Rattle.std.proofs.lemmas.Iterator.Search.{all_from_yields_List}
+use Rattle.block_layout.proofs.Finding.{free_in}
+use Rattle.block_layout.proofs.Ranges.{all_tested}
 use Rattle.block_layout.proofs.searches.all_free.Goals as goal
-
-pub loop-i-init : goal.loop-i-init
-loop-i-init c = refl
-
-pub returns-then-used-ne0 : goal.returns-then-used-ne0
-returns-then-used-ne0 c =
-    let p = c.loop-i in
-    let s = c.args in
-    all-stop (free_in s.m.now s.d s.k) 8 p.i (omega arith) (isn't-so c.used.ensures c.if-used-ne0.true) ∙ p.invariant
-
-pub loop-i-preserved : goal.loop-i-preserved
-loop-i-preserved c =
-    let p = c.loop-i in
-    let s = c.args in
-    all-next (free_in s.m.now s.d s.k) 8 p.i (omega arith) (is-so c.used.ensures c.if-used-ne0.false) ∙ p.invariant
 
 pub returns : goal.returns
 returns c =
-    let p = c.loop-i in
     let s = c.args in
-    all_end (free_in s.m.now s.d s.k) 8 p.i (omega arith) ∙ p.invariant
+    let f = free_in s.m.now s.d s.k in
+    all_tested f 8 0 (all_from_yields_List f _ _ _ c.all.ensures.ran (YieldsList-from_range 0 8 8 refl refl) (λ x b q k. search (rules, tests)))

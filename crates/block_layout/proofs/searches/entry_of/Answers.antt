@@ -1,29 +1,18 @@
--- `block_layout::searches::entry_of` meets its contract: the search of what is left finds what the search of all finds. Assumes nothing.
-use mathlib.Core.Path.{refl, ◌∙◌}
-use native.Mathlib.Omega.{arith}
+-- `block_layout::searches::entry_of` meets its contract. Assumes nothing.
+use Rattle.std.proofs.Common.{◌≡◌, refl, ◌∙◌, arith, rules, tests}
+use Rattle.std.proofs.lemmas.Iterator.{YieldsList-from_range}
+use Rattle.std.proofs.lemmas.Iterator.Search.{find_from_yields_List}
 use Rattle.block_memory.specs.Partition.{entry_of}
-use Rattle.block_memory.proofs.Loops.{lowest-stop, lowest-next, lowest-end}
-use Rattle.block_layout.proofs.Finding.{is-so, isn't-so, entry_is}
+use Rattle.block_layout.proofs.Finding.{entry_is}
+use Rattle.block_layout.proofs.Ranges.{lowest_found, lowest_below}
 use Rattle.block_layout.proofs.searches.entry_of.Goals as goal
 
-pub loop-e-init : goal.loop-e-init
-unfolding entry_of
-loop-e-init c = refl
-
-pub returns-then-entry-n : goal.returns-then-entry-n
-returns-then-entry-n c =
-    let p = c.loop-e in
-    let s = c.args in
-    (lowest-stop (entry_is s.m.now s.d s.n) 9 p.e (omega arith) (is-so c.entry.ensures c.if-entry-n.true) ∙ p.invariant, omega arith)
-
-pub loop-e-preserved : goal.loop-e-preserved
-loop-e-preserved c =
-    let p = c.loop-e in
-    let s = c.args in
-    lowest-next (entry_is s.m.now s.d s.n) 9 p.e (omega arith) (isn't-so c.entry.ensures c.if-entry-n.false) ∙ p.invariant
-
 pub returns : goal.returns
+unfolding entry_of
 returns c =
-    let p = c.loop-e in
     let s = c.args in
-    (lowest-end (entry_is s.m.now s.d s.n) 9 p.e (omega arith) ∙ p.invariant, omega arith)
+    let f = entry_is s.m.now s.d s.n in
+    let e : c.unwrap_or.result ≡ entry_of s.m.now s.d s.n =
+    c.unwrap_or.ensures ∙ lowest_found f 8 1 c.find.result
+    (find_from_yields_List f _ _ c.find.result c.find.ensures.ran (YieldsList-from_range 1 9 8 refl refl) (λ x b q k. search (rules, tests))) in
+    (e, omega (arith, e, lowest_below f 8 1))

@@ -13,4 +13,4 @@ slice_bounds-gone-end c = omega (arith, short c.args.m.now c.requires.0)
 pub delete_with-requires : goal.delete_with-requires
 delete_with-requires c =
     let l = short c.args.m.now c.requires.0 in
-    (c.requires.0, c.requires.1, search rules, unmarked (length c.args.m.now / 32 - 0) 512, search rules)
+    (c.requires.0, c.requires.1, search rules, unmarked (length c.args.m.now / 32 - 0) 512)

@@ -2,14 +2,13 @@
 use mathlib.Core.Path.{◌≡◌, ap, ◌∙◌}
 use Prim.Native.Nat.{◌+◌, ◌<◌}
 use native.Mathlib.Omega.{arith}
-use lib.ListN.{length-set, replicate}
-use borrow.Author.Rules.{rules}
+use lib.ListN.{replicate}
 use Rattle.block_memory.specs.Partition
 use Rattle.block_making.proofs.Turns.{fill_none, fill_more, fill-all}
 use Rattle.block_making.proofs.wiping.structures.Goals as goal
 
 pub loop-i-init : goal.loop-i-init
-loop-i-init c = let s = c.args in (fill_none (Partition.structure s.m.now s.t) 1 (replicate 16 0), search rules, search rules)
+loop-i-init c = let s = c.args in fill_none (Partition.structure s.m.now s.t) 1 (replicate 16 0)
 
 pub loop-i-preserved : goal.loop-i-preserved
 loop-i-preserved c =
@@ -18,11 +17,10 @@ loop-i-preserved c =
     let f = Partition.structure s.m.now s.t in
     let h : p.i < 16 = omega arith in
     let z : p.i + 1 ≡ 1 + p.i = omega arith in
-    let e = c.structure.ensures ∙ ap f z in
-    (fill_more f 1 p.i (replicate 16 0) h p.invariant.0 e, omega arith, length-set p.at p.i c.structure.result ∙ p.invariant.2)
+    fill_more f 1 p.i (replicate 16 0) h p.invariant (c.structure.ensures ∙ ap f z)
 
 pub returns : goal.returns
 returns c =
     let s = c.args in
     let p = c.loop-i in
-    fill-all (Partition.structure s.m.now s.t) 1 p.i (replicate 16 0) (omega arith) p.invariant.0
+    fill-all (Partition.structure s.m.now s.t) 1 p.i (replicate 16 0) (omega arith) p.invariant

@@ -1,28 +1,22 @@
--- `collecting::collecting::collect` meets its contract. The answer and the memory go by the number of the refusal. Assumes nothing.
-use mathlib.Core.Path.{sym, ◌∙◌}
+-- `collecting::collecting::collect` meets its contract. The answer and the memory go by what the test gave. Assumes nothing.
+use mathlib.Core.Path.{sym}
 use Rattle.rules.specs.Call.{collect}
 use Rattle.moves.proofs.Whole.{refused, done}
 use Rattle.threes.proofs.StandLaws.{collect-stands}
 use Rattle.collecting.proofs.collecting.collect.Goals as goal
 
-pub returns-then-n-ne0 : goal.returns-then-n-ne0
-returns-then-n-ne0 c =
+pub returns-in_err-collect_refusal : goal.returns-in_err-collect_refusal
+returns-in_err-collect_refusal c =
     let s = c.args in
-    let r = c.collect_refusal-n in
-    let call = collect s.c s.t in
-    refused s.b s.m.now call r.result r.ensures.0 0 c.reply.ensures c.if-n-ne0.true
+    refused s.b.bits s.m.now (collect s.c s.t) c.from_residual.result _ c.from_residual.ensures.1 c.in_err-collect_refusal.ensures
 
-pub collect_effect-v-requires : goal.collect_effect-v-requires
-collect_effect-v-requires c =
-    let h = c.requires in
+pub collect_effect-requires : goal.collect_effect-requires
+collect_effect-requires c =
     let s = c.args in
-    record { width = h.width; stands = collect-stands s.b s.m.now s.c s.t h.width.0 (sym c.collect_refusal-n.ensures.0 ∙ c.if-n-ne0.false) }
+    record { stands = collect-stands s.b.bits s.m.now s.c s.t s.b.known.0 (sym c.in_ok-collect_refusal.ensures) }
 
 pub returns : goal.returns
 returns c =
-    let first = c.if-n-ne0 in
     let s = c.args in
-    let r = c.collect_refusal-n in
-    let x = c.collect_effect-v in
-    let call = collect s.c s.t in
-    done s.b s.m.now call r.result r.ensures.0 x.result c.reply-2.ensures x.ensures.0 x.ensures.1 first.false
+    let x = c.collect_effect in
+    done s.b.bits s.m.now (collect s.c s.t) c.in_ok-collect_refusal.ensures x.result x.ensures.0 x.ensures.1

@@ -1,24 +1,12 @@
--- `common::parts::copy` meets its contract. The words passed are those of ws, and those behind them as they were. The measure is what is left. Assumes nothing.
-use mathlib.Core.Path.{◌∙◌}
-use native.Mathlib.Omega.{arith}
-use lib.ListN.{length-set}
-use borrow.Author.Rules.{rules}
-use Rattle.common.proofs.Overwrite.{copy_none, copy_more, copy_all}
+-- `common::parts::copy` meets its contract. Assumes nothing.
+use mathlib.Core.Path.{ap, ◌∙◌}
+use mathlib.Core.List.{List, ◌++◌}
+use Prim.Native.Nat.{ℕ}
+use lib.ListN.{drop}
+use Rattle.common.proofs.Overwrite.{copied}
 use Rattle.common.proofs.parts.copy.Goals as goal
-
-pub loop-i-init : goal.loop-i-init
-loop-i-init c =
-    let s = c.args in
-    (copy_none s.s.now s.ws.now, search rules, search rules)
-
-pub loop-i-preserved : goal.loop-i-preserved
-loop-i-preserved c =
-    let p = c.loop-i in
-    let a = c.args in
-    (copy_more a.s.now p.s p.i a.ws.now (omega arith) (omega arith) p.invariant.0, omega arith, length-set p.s p.i _ ∙ p.invariant.2)
 
 pub returns : goal.returns
 returns c =
-    let p = c.loop-i in
-    let a = c.args in
-    p.invariant.0 ∙ copy_all a.s.now p.i a.ws.now (omega arith)
+    let n = c.min-n.result in
+    ap (λ (l : List ℕ). l ++ drop n c.args.s.now) c.copy_from_slice.ensures.after ∙ copied c.args.s.now c.args.ws.now n c.min-n.ensures

@@ -10,9 +10,8 @@ use Rattle.common.proofs.parts.put_words.Goals as goal
 
 pub returns : goal.returns
 returns c =
-    let least = c.least-a in
+    let a = c.min-a.result in
     let s = c.args in
-    let a = least.result in
-    let e = c.least-e.result in
+    let e = c.min-e.result in
     ap (λ (l : List ℕ). take a s.m.now ++ (l ++ drop (e - a) (drop a s.m.now))) c.copy.ensures
     ∙ part-back s.m.now s.i (length s.ws.now) a e s.ws.now (le_refl (length s.ws.now)) (omega arith) (omega arith)

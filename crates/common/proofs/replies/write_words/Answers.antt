@@ -8,16 +8,16 @@ use Rattle.common.proofs.replies.write_words.Goals as goal
 pub loop-k-init : goal.loop-k-init
 loop-k-init c =
     let s = c.args in
-    (omega arith, search rules, words-none s.answers.now s.words.now s.p)
+    (search rules, words-none s.answers.now s.words.now s.p)
 
 pub loop-k-preserved : goal.loop-k-preserved
 loop-k-preserved c =
     let s = c.args in
     let l = c.loop-k in
-    (omega arith, search rules, words_more l.answers s.words.now s.p l.k (omega arith) c.wide.ensures ∙ l.invariant.2)
+    (search rules, words_more l.answers s.words.now s.p l.k (omega arith) c.from.ensures ∙ l.invariant.1)
 
 pub returns : goal.returns
 returns c =
     let s = c.args in
     let l = c.loop-k in
-    sym (words-all l.answers s.words.now s.p l.k (omega arith)) ∙ l.invariant.2
+    sym (words-all l.answers s.words.now s.p l.k (omega arith)) ∙ l.invariant.1

@@ -12,15 +12,15 @@ returns-then-edition-gt1 c =
 pub returns-then-wrong_size : goal.returns-then-wrong_size
 returns-then-wrong_size c =
     let s = c.args in
-    no_size s.m.now s.edition (omega arith) c.width_of-b.ensures.0 (sym c.wrong_size.ensures ∙ c.if-wrong_size.true)
+    no_size s.m.now s.edition (omega arith) c.width_of-b.ensures (sym c.wrong_size.ensures ∙ c.if-wrong_size.true)
 
 pub format_effect-requires : goal.format_effect-requires
-format_effect-requires c = record { width = c.width_of-b.ensures.1; sized = sym c.wrong_size.ensures ∙ c.if-wrong_size.false }
+format_effect-requires c = record { sized = sym c.wrong_size.ensures ∙ c.if-wrong_size.false }
 
 pub returns : goal.returns
 returns c =
     let s = c.args in
     let wrong_size = c.wrong_size in
     let read_width = c.width_of-b in
-    formatted s.m.now s.edition (omega arith) read_width.ensures.0 (sym wrong_size.ensures ∙ c.if-wrong_size.false)
+    formatted s.m.now s.edition (omega arith) read_width.ensures (sym wrong_size.ensures ∙ c.if-wrong_size.false)
     c.format_effect.ensures

@@ -4,7 +4,7 @@ use Rattle.formatting.proofs.SizeLaws.{near_address}
 use Rattle.formatting.proofs.sizes.page_address.Goals as goal
 
 pub address-requires : goal.address-requires
-address-requires c = record { width = c.requires.width; fits = omega (arith, near_address c.args.b c.args.p.0 c.requires.width.1 c.requires.near) }
+address-requires c = record { fits = omega (arith, near_address c.args.b.bits c.args.p.0 c.args.b.known.1 c.requires.near) }
 
 pub returns : goal.returns
 returns c = (
@@ -12,7 +12,7 @@ returns c = (
   omega (
     arith,
     c.address.ensures,
-    near_address c.args.b c.args.p.0 c.requires.width.1
+    near_address c.args.b.bits c.args.p.0 c.args.b.known.1
         c.requires.near,
   ),
 )

@@ -5,4 +5,4 @@ use Rattle.forms.proofs.indices.joined_at.Goals as goal
 pub returns : goal.returns
 returns c =
     let s = c.args in
-    joined_as s.b s.m.now s.o.descriptor.0 s.i c.words_at-t.ensures
+    joined_as s.o.now.width.bits s.o.now.words.now s.o.now.descriptor.0 s.i c.words_at-t.ensures

@@ -1,26 +1,29 @@
 -- `forms::indices::next_used` meets its contract. Assumes nothing.
-use mathlib.Core.Path.{sym, ◌∙◌}
+use mathlib.Core.Bool.{true, false}
+use mathlib.Core.Path.{◌≡◌}
+use Prim.Native.Nat.{ℕ, ◌≤◌, ◌<◌}
 use native.Mathlib.Omega.{arith}
-use borrow.Author.Tests.{eq-eqb}
-use Rattle.own_pages.proofs.Laws.Asked.{skip-one}
+use Rattle.std.proofs.Common.{rules, tests}
+use Rattle.std.specs.Option.{MatchOption}
+use Rattle.std.proofs.lemmas.Iterator.{first_from_Range}
+use Rattle.own_pages.specs.Asked.{no_tables}
+use Rattle.own_pages.proofs.Laws.Asked.{skip_run}
+use Rattle.forms.proofs.Laws.Met.{told_as}
 use Rattle.forms.proofs.indices.next_used.Goals as goal
 
-pub loop-k-init : goal.loop-k-init
-loop-k-init c = c.next_row-k.ensures
-
-pub joined_at-requires : goal.joined_at-requires
-joined_at-requires c =
-    let h = c.requires in
-    record { width = h.width; named = h.named; place = omega arith }
-
-pub returns-then-joined_at-ne0 : goal.returns-then-joined_at-ne0
-returns-then-joined_at-ne0 c = c.loop-k.invariant
-
-pub loop-k-preserved : goal.loop-k-preserved
-loop-k-preserved c =
-    let s = c.args in
-    skip-one s.b s.m.now s.o.descriptor.0 c.loop-k.invariant (omega arith)
-    (sym c.joined_at.ensures ∙ eq-eqb c.joined_at.result 0 c.if-joined_at-ne0.false)
-
 pub returns : goal.returns
-returns c = c.loop-k.invariant
+returns c =
+    let o = c.args.o.now in
+    let b = o.width.bits in
+    let m = o.words.now in
+    let d = o.descriptor.0 in
+    let s = c.next_row.ensures in
+    let n = c.page_words.ensures.0 in
+    let a = c.next_row.result in
+    let e = c.page_words.result in
+    let empty : ℕ → ℕ → Type 0 = λ i j. (k : ℕ) → i ≤ k → k < j → no_tables b m d k ≡ true in
+    let found : MatchOption c.find.result (empty a e) (λ r. (a ≤ r) × (r < e) × (no_tables b m d r ≡ false) × empty a r) =
+    first_from_Range _ _ _ _ (λ k. no_tables b m d k ≡ false) (λ k. no_tables b m d k ≡ true) c.find.ensures.ran (λ x q k. search (rules, tests)) (λ x q k. search (rules, tests)) in
+    told_as c.find.result found
+    (λ none. skip_run b m d s s.high (omega arith) (λ x y l. none x y (omega arith)))
+    (λ r (x, y, z, p). (omega arith, skip_run b m d s x (omega arith) p))

@@ -1,59 +1,70 @@
 -- `header::root::root_pages` meets its contract. Assumes nothing.
-use mathlib.Core.Bool.{not}
-use mathlib.Core.Path.{◌≡◌, sym, ap, ◌∙◌}
+use mathlib.Core.Bool.{Bool, true, false, ◌&&◌, ◌||◌}
+use mathlib.Core.Path.{◌≡◌, refl, sym, ap, ap₂, ◌∙◌}
 use mathlib.Core.List.{List}
 use Prim.Native.Nat.{ℕ, ◌+◌}
 use lib.Dec.{eqb}
+use Rattle.std.proofs.Common.{rules, tests}
 use Rattle.walk.specs.Finite.{from, all}
-use Rattle.memory.specs.Format.{root_directory_word, root_list_word, format_word}
+use Rattle.memory.specs.Format.{root_descriptor_word, root_directory_word, root_list_word, format_word}
 use Rattle.memory.specs.Geometry.{page_words}
 use Rattle.memory.specs.Partition.{pages}
 use Rattle.memory.specs.Words.{word}
-use Rattle.own_pages.proofs.Laws.Tests.{yes, no, and-true}
+use Rattle.own_pages.proofs.Laws.Loops.{all_over}
+use Rattle.header.proofs.root.root_pages.Goals.{then-root_descriptor, else-root_descriptor}
 use Rattle.header.proofs.root.root_pages.Goals as goal
 
--- n is the number of pages
-directory-of : (b : ℕ) (m : List ℕ) (k : ℕ) {n : ℕ} → n ≡ pages b m
-    → all (λ i. eqb (word b m (2 + k) i) (root_directory_word b n k i)) (from (page_words b) 0) ≡ all (λ i. eqb (word b m (2 + k) i) (root_directory_word b (pages b m) k i)) (from (page_words b) 0)
-directory-of b m k e = ap (λ (x : ℕ). all (λ i. eqb (word b m (2 + k) i) (root_directory_word b x k i)) (from (page_words b) 0)) e
+abbrev described : ℕ → List ℕ → Bool
+described b m = all (λ i. eqb i 12 || eqb (word b m 1 i) (root_descriptor_word b i)) (from (page_words b) 0)
 
-pub returns-then-not-root_descriptor : goal.returns-then-not-root_descriptor
-unfolding format_word from all
-returns-then-not-root_descriptor c = rw (no c.root_descriptor.ensures (ap not c.if-not-root_descriptor.true))
+abbrev directs : ℕ → List ℕ → ℕ → ℕ → Bool
+directs b m n k = all (λ i. eqb (word b m (2 + k) i) (root_directory_word b n k i)) (from (page_words b) 0)
 
-pub returns-then-not-root_directory : goal.returns-then-not-root_directory
-unfolding format_word from all
-returns-then-not-root_directory c =
-    let s = c.args in
-    let pages = c.pages-n in
-    rw (yes c.root_descriptor.ensures (ap not c.if-not-root_descriptor.false), no (c.root_directory.ensures ∙ directory-of s.b s.m.now 0 pages.ensures) (ap not c.if-not-root_directory.true))
+abbrev lists : ℕ → List ℕ → ℕ → Bool
+lists b m n = all (λ i. eqb (word b m 5 i) (root_list_word b n i)) (from (page_words b) 0)
 
-pub returns-then-not-root_directory-2 : goal.returns-then-not-root_directory-2
-unfolding format_word from all
-returns-then-not-root_directory-2 c =
-    let s = c.args in
-    let pages = c.pages-n in
-    let root-descriptor = c.root_descriptor in
-    rw (yes root-descriptor.ensures (ap not c.if-not-root_descriptor.false), yes (c.root_directory.ensures ∙ directory-of s.b s.m.now 0 pages.ensures) (ap not c.if-not-root_directory.false), no (c.root_directory-2.ensures ∙ directory-of s.b s.m.now 1 pages.ensures) (ap not c.if-not-root_directory-2.true))
+in_order : (d x y z l : Bool) → d && (x && (y && (z && true))) && l ≡ d && (x && (y && (z && (l && true))))
+in_order false x y z l = refl
+in_order true false y z l = refl
+in_order true true false z l = refl
+in_order true true true false l = refl
+in_order true true true true true = refl
+in_order true true true true false = refl
 
-pub returns-then-not-root_directory-3 : goal.returns-then-not-root_directory-3
+-- the five pages: the descriptor, the directory and its shadows, the list
+five : (b : ℕ) (m : List ℕ) (n : ℕ) → described b m && all (directs b m n) (from 3 0) && lists b m n
+    ≡ all (λ p. all (λ i. (eqb p 0 && eqb i 12) || eqb (word b m (1 + p) i) (format_word b n (1 + p) i)) (from (page_words b) 0)) (from 5 0)
 unfolding format_word from all
-returns-then-not-root_directory-3 c =
-    let s = c.args in
-    let pages = c.pages-n in
-    let root-descriptor = c.root_descriptor in
-    let first = c.if-not-root_descriptor in
-    let root-directory = c.root_directory in
-    rw (yes root-descriptor.ensures (ap not first.false), yes (root-directory.ensures ∙ directory-of s.b s.m.now 0 pages.ensures) (ap not c.if-not-root_directory.false), yes (c.root_directory-2.ensures ∙ directory-of s.b s.m.now 1 pages.ensures) (ap not c.if-not-root_directory-2.false), no (c.root_directory-3.ensures ∙ directory-of s.b s.m.now 2 pages.ensures) (ap not c.if-not-root_directory-3.true))
+five b m n = in_order (described b m) (directs b m n 0) (directs b m n 1) (directs b m n 2) (lists b m n)
 
-pub returns : goal.returns
-unfolding format_word from all
-returns c =
-    let s = c.args in
-    let pages = c.pages-n in
-    let root-descriptor = c.root_descriptor in
-    let first = c.if-not-root_descriptor in
-    let root-directory = c.root_directory in
-    let second = c.if-not-root_directory in
-    rw (yes root-descriptor.ensures (ap not first.false), yes (root-directory.ensures ∙ directory-of s.b s.m.now 0 pages.ensures) (ap not second.false), yes (c.root_directory-2.ensures ∙ directory-of s.b s.m.now 1 pages.ensures) (ap not c.if-not-root_directory-2.false), yes (c.root_directory-3.ensures ∙ directory-of s.b s.m.now 2 pages.ensures) (ap not c.if-not-root_directory-3.false))
-    (c.root_list.ensures ∙ ap (λ (x : ℕ). all (λ i. eqb (word s.b s.m.now 5 i) (root_list_word s.b x i)) (from (page_words s.b) 0)) pages.ensures ∙ sym (and-true _))
+pub returns-then-all : goal.returns-then-all
+returns-then-all c =
+    let b = c.args.b.bits in
+    let m = c.args.m.now in
+    let z = c.of-z.result in
+    let e = c.of-z.ensures.0 in
+    let q = c.of-z.ensures.1 ∙ c.pages.ensures in
+    elim c.if-root_descriptor.branch [
+      | then-root_descriptor w ↦
+          let d : described b m ≡ true = sym (c.root_descriptor.ensures ∙ ap (λ (x : ℕ). described x m) e) ∙ w.if-root_descriptor.true in
+          let k : all (directs b m (pages b m)) (from 3 0) ≡ true = sym (w.value-is ∙ all_over (directs z.width.bits m z.pages) 3 w.all.ensures.ran refl (λ x b q k. search (rules, tests)) ∙ ap₂ (λ (x y : ℕ). all (directs x m y) (from 3 0)) e q) ∙ c.if-all.true in
+          c.root_list.ensures ∙ ap₂ (λ (x y : ℕ). lists x m y) e q ∙ sym (rw (d, k) refl) ∙ five b m (pages b m)
+      | else-root_descriptor w ↦ cc
+    ]
+
+pub returns-else-all : goal.returns-else-all
+returns-else-all c =
+    let b = c.args.b.bits in
+    let m = c.args.m.now in
+    let z = c.of-z.result in
+    let e = c.of-z.ensures.0 in
+    let q = c.of-z.ensures.1 ∙ c.pages.ensures in
+    elim c.if-root_descriptor.branch [
+      | then-root_descriptor w ↦
+          let d : described b m ≡ true = sym (c.root_descriptor.ensures ∙ ap (λ (x : ℕ). described x m) e) ∙ w.if-root_descriptor.true in
+          let k : all (directs b m (pages b m)) (from 3 0) ≡ false = sym (w.value-is ∙ all_over (directs z.width.bits m z.pages) 3 w.all.ensures.ran refl (λ x b q k. search (rules, tests)) ∙ ap₂ (λ (x y : ℕ). all (directs x m y) (from 3 0)) e q) ∙ c.if-all.false in
+          c.if-all.false ∙ sym (rw (d, k) refl) ∙ five b m (pages b m)
+      | else-root_descriptor w ↦
+          let d : described b m ≡ false = sym (c.root_descriptor.ensures ∙ ap (λ (x : ℕ). described x m) e) ∙ w.if-root_descriptor.false in
+          c.if-all.false ∙ sym (rw d refl) ∙ five b m (pages b m)
+    ]

@@ -6,4 +6,4 @@ use Rattle.judge.proofs.children.child_of.Goals as goal
 
 pub returns : goal.returns
 unfolding child_of
-returns c = c.page_of.ensures ∙ ap (page_of c.args.b) c.mapping.ensures
+returns c = c.page_of.ensures ∙ ap (page_of c.args.b.bits) c.mapping.ensures

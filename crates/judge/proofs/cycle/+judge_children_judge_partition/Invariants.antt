@@ -1,5 +1,5 @@
 -- The depth that is left falls: a partition of that depth comes before its children.
-use Prim.Native.Nat.{◌+◌, ◌-◌, ◌≤◌, ℕ, ◌<◌}
+use Prim.Native.Nat.{◌+◌, ◌-◌, ◌≤◌, ◌<◌}
 use mathlib.Core.Path.{◌≡◌}
 use mathlib.Core.Bool.{true}
 use mathlib.Core.Option.{some}
@@ -7,13 +7,11 @@ use lib.ListN.{length, get_or}
 use Rattle.walk.specs.Finite.{from}
 use Rattle.walk.specs.Marks.{each}
 use Rattle.memory.specs.Geometry.{page_words, page_of}
-use Rattle.memory.specs.Words.{page}
-use Rattle.memory.specs.Partition.{directory, shadow1}
 use Rattle.memory.specs.Counts.{children}
 use Rattle.soundness.specs.Test.{own}
 use Rattle.judging.specs.Quick.{partition_test}
 use Rattle.tally.specs.Run.{run, marking}
-use Rattle.tally.specs.Rows.{used, child_words}
+use Rattle.tally.specs.Rows.{child_words}
 use Rattle.tally.specs.Bits.{marks_in}
 use Rattle.tally.proofs.Laws.Rows.{row_step}
 use Rattle.tally.proofs.Laws.Sweeps.{child_step}
@@ -30,19 +28,17 @@ abbrev pub invariant-judge_children-loop-j : goal.invariant-judge_children-loop-
 invariant-judge_children-loop-j l =
     (length l.seen ≡ length l.initial.seen) × (l.j ≤ l.n) × (l.j < l.n → child_words (get_or l.pt l.j 0) (get_or l.s1 l.j 0) ≡ true)
     × (run (marking (λ k. child_words (get_or l.pt k 0) (get_or l.s1 k 0))
-    (λ t k. W.child (children l.b l.m) (own l.b l.m) (partition_test l.b l.m) l.left t (page_of l.b (get_or l.pt k 0)))) (some (marks_in l.initial.seen)) (from (page_words l.b) 0)
+    (λ t k. W.child (children l.b.bits l.m) (own l.b.bits l.m) (partition_test l.b.bits l.m) l.left t (page_of l.b.bits (get_or l.pt k 0)))) (some (marks_in l.initial.seen)) (from (page_words l.b.bits) 0)
     ≡ run (marking (λ k. child_words (get_or l.pt k 0) (get_or l.s1 k 0))
-    (λ t k. W.child (children l.b l.m) (own l.b l.m) (partition_test l.b l.m) l.left t (page_of l.b (get_or l.pt k 0)))) (some (marks_in l.seen)) (from (page_words l.b - l.j) l.j))
+    (λ t k. W.child (children l.b.bits l.m) (own l.b.bits l.m) (partition_test l.b.bits l.m) l.left t (page_of l.b.bits (get_or l.pt k 0)))) (some (marks_in l.seen)) (from (page_words l.b.bits - l.j) l.j))
 
 abbrev pub decreases-judge_children-loop-j : goal.decreases-judge_children-loop-j
 decreases-judge_children-loop-j l = l.n - l.j
 
 abbrev pub invariant-judge_children-loop-i : goal.invariant-judge_children-loop-i
 invariant-judge_children-loop-i l =
-    (length l.seen ≡ length l.initial.seen) × (l.i ≤ length l.dir) × (l.i < length l.dir → used l.dir l.i ≡ true)
-    × ((d : ℕ) → l.dir ≡ page l.b l.m (directory l.b l.m d) → l.sh1 ≡ page l.b l.m (shadow1 l.b l.m d)
-    → each (W.child (children l.b l.m) (own l.b l.m) (partition_test l.b l.m) l.left) (marks_in l.initial.seen) (children l.b l.m d)
-    ≡ run (row_step l.b l.m (child_step l.b l.m d (W.child (children l.b l.m) (own l.b l.m) (partition_test l.b l.m) l.left)) d) (some (marks_in l.seen)) (from (page_words l.b - l.i) l.i))
-
-abbrev pub decreases-judge_children-loop-i : goal.decreases-judge_children-loop-i
-decreases-judge_children-loop-i l = length l.dir - l.i
+    (length l.seen ≡ length l.initial.seen) × (l.i-iterator.words.now ≡ l.dir)
+    × (each (W.child (children l.b.bits l.m) (own l.b.bits l.m) (partition_test l.b.bits l.m) l.left) (marks_in l.initial.seen) (children l.b.bits l.m l.fn.d.0)
+    ≡ run (row_step l.b.bits l.m (child_step l.b.bits l.m l.fn.d.0
+    (W.child (children l.b.bits l.m) (own l.b.bits l.m) (partition_test l.b.bits l.m) l.left)) l.fn.d.0) (some (marks_in l.seen))
+    (from (page_words l.b.bits - l.i-iterator.at) l.i-iterator.at))

@@ -1,8 +1,6 @@
 -- `judge::partitions::judge_alone` meets its contract. Assumes nothing.
 use mathlib.Core.Bool.{not}
-use mathlib.Core.Path.{ap}
-use mathlib.Core.Path.{◌∙◌}
-use mathlib.Core.Bool.{false≢true}
+use mathlib.Core.Path.{ap, ◌∙◌}
 use borrow.Author.Tests.{not-true, not-false}
 use Rattle.walk.specs.Marks.{passed, failed}
 use Rattle.tally.specs.Bits.{marks_in}
@@ -10,53 +8,49 @@ use Rattle.judge.specs.Alone.{alone_test}
 use Rattle.judge.proofs.Laws.Tree.{alone-bad, alone-unmarked, alone-marked}
 use Rattle.tally.proofs.Laws.Marks.{own-no, own-yes}
 use Rattle.judge.proofs.Laws.Order.{unformed, few, tested}
+use Rattle.own_pages.proofs.Laws.Tests.{yes, no}
 use Rattle.judge.proofs.partitions.judge_alone.Goals as goal
 
 pub returns-then-not-forms_test : goal.returns-then-not-forms_test
 returns-then-not-forms_test c =
     let s = c.args in
-    (alone-bad _ (unformed s.b s.m.now s.d.0 c.forms_test.ensures (ap not c.if-not-forms_test.true)), λ e. absurd (false≢true e))
+    (alone-bad _ (unformed s.b.bits s.m.now s.d.0 c.forms_test.ensures (ap not c.if-not-forms_test.true)), tt)
 
 pub mark_kernel-requires : goal.mark_kernel-requires
 mark_kernel-requires c =
-    let h = c.requires in
     let s = c.args in
-    record { width = h; few = few s.b s.m.now s.d.0 c.forms_test.ensures (ap not c.if-not-forms_test.false) }
+    record { few = few s.b.bits s.m.now s.d.0 c.forms_test.ensures (ap not c.if-not-forms_test.false) }
 
 pub returns-then-not-mark_kernel : goal.returns-then-not-mark_kernel
 returns-then-not-mark_kernel c =
     let mark-kernel = c.mark_kernel in
     let s = c.args in
-    let kernel = failed _ mark-kernel.result (marks_in mark-kernel.new.seen) mark-kernel.ensures (not-true _ (ap not c.if-not-mark_kernel.true)) in (
-      alone-unmarked (alone_test s.b s.m.now s.d.0) (own-no s.b s.m.now s.d.0 (marks_in s.seen.now) kernel),
-      λ e. absurd (false≢true e),
-    )
+    let kernel = failed _ mark-kernel.result (marks_in mark-kernel.new.seen) mark-kernel.ensures (not-true _ (ap not c.if-not-mark_kernel.true)) in
+    (alone-unmarked (alone_test s.b.bits s.m.now s.d.0) (own-no s.b.bits s.m.now s.d.0 (marks_in s.seen.now) kernel), tt)
 
-pub returns-then-not-t : goal.returns-then-not-t
-returns-then-not-t c =
+pub returns-in_err-t : goal.returns-in_err-t
+returns-in_err-t c =
     let mark-kernel = c.mark_kernel in
-    let second = c.if-not-mark_kernel in
-    let tally = c.tally-t in
     let s = c.args in
-    let kernel = passed _ mark-kernel.result (marks_in mark-kernel.new.seen) mark-kernel.ensures (not-false _ (ap not second.false)) in
-    let hands = failed _ tally.result.marked (marks_in tally.new.seen) tally.ensures.0 (not-true _ c.if-not-t.true) in
-    let own = own-yes s.b s.m.now s.d.0 (marks_in s.seen.now) (marks_in mark-kernel.new.seen) kernel ∙ hands in
-    (alone-unmarked (alone_test s.b s.m.now s.d.0) own, λ e. absurd (false≢true e))
+    let kernel = passed _ mark-kernel.result (marks_in mark-kernel.new.seen) mark-kernel.ensures (not-false _ (ap not c.if-not-mark_kernel.false)) in
+    let own = own-yes s.b.bits s.m.now s.d.0 (marks_in s.seen.now) (marks_in mark-kernel.new.seen) kernel ∙ c.in_err-t.ensures.0 in
+    rw c.from_residual.ensures (alone-unmarked (alone_test s.b.bits s.m.now s.d.0) own, tt)
+
+pub returns-then-not-tables_test : goal.returns-then-not-tables_test
+returns-then-not-tables_test c =
+    let s = c.args in
+    let counts = c.in_ok-t.ensures.1 in
+    let test = tested s.b.bits s.m.now s.d.0 c.forms_test.ensures (ap not c.if-not-forms_test.false) counts.1 counts.2 c.tables_test.ensures in
+    (alone-bad _ (no test (ap not c.if-not-tables_test.true)), tt)
 
 pub returns : goal.returns
 returns c =
-    let forms-test = c.forms_test in
-    let first = c.if-not-forms_test in
     let mark-kernel = c.mark_kernel in
-    let second = c.if-not-mark_kernel in
-    let tally = c.tally-t in
-    let third = c.if-not-t in
     let s = c.args in
-    let kernel = passed _ mark-kernel.result (marks_in mark-kernel.new.seen) mark-kernel.ensures (not-false _ (ap not second.false)) in
-    let hands = passed _ tally.result.marked (marks_in tally.new.seen) tally.ensures.0 (not-false _ third.false) in
-    let counts = tally.ensures.1 (not-false _ third.false) in (
-      alone-marked (marks_in tally.new.seen)
-          (tested s.b s.m.now s.d.0 forms-test.ensures (ap not first.false) counts.1 counts.2 c.tables_test.ensures)
-          (own-yes s.b s.m.now s.d.0 (marks_in s.seen.now) (marks_in mark-kernel.new.seen) kernel ∙ hands),
-      λ e. (counts.0, counts.2),
+    let kernel = passed _ mark-kernel.result (marks_in mark-kernel.new.seen) mark-kernel.ensures (not-false _ (ap not c.if-not-mark_kernel.false)) in
+    let swept = c.in_ok-t.ensures in
+    let test = tested s.b.bits s.m.now s.d.0 c.forms_test.ensures (ap not c.if-not-forms_test.false) swept.1.1 swept.1.2 c.tables_test.ensures in (
+      alone-marked (yes test (ap not c.if-not-tables_test.false))
+          (own-yes s.b.bits s.m.now s.d.0 (marks_in s.seen.now) (marks_in mark-kernel.new.seen) kernel ∙ swept.0),
+      (swept.1.0, swept.1.2),
     )

@@ -1,20 +1,17 @@
 -- `judge::root::root_map` meets its contract. Assumes nothing.
-use Prim.Native.Nat.{◌-◌, ◌≤◌, ◌<◌}
+use Prim.Native.Nat.{◌-◌}
 use mathlib.Core.Path.{◌≡◌}
 use mathlib.Core.Bool.{true}
-use lib.ListN.{length}
 use Rattle.walk.specs.Finite.{from, all}
 use Rattle.memory.specs.Geometry.{page_words}
 use Rattle.memory.specs.Counts.{tabled}
 use Rattle.soundness.specs.Test.{root_map_test}
 use Rattle.tally.specs.Run.{run, asking}
-use Rattle.tally.specs.Rows.{used}
 use Rattle.tally.proofs.Laws.Rows.{row_step}
 use Rattle.judge.proofs.root.root_map.Given as goal
 
 abbrev pub invariant-loop-i : goal.invariant-loop-i
-invariant-loop-i l = (l.i ≤ length l.dir) × (l.i < length l.dir → used l.dir l.i ≡ true) ×
-    (all (root_map_test l.b l.m) (tabled l.b l.m 1) ≡ run (row_step l.b l.m (asking (root_map_test l.b l.m)) 1) true (from (page_words l.b - l.i) l.i))
-
-abbrev pub decreases-loop-i : goal.decreases-loop-i
-decreases-loop-i l = length l.dir - l.i
+invariant-loop-i l =
+    (l.i-iterator.words.now ≡ l.dir)
+    × (all (root_map_test l.b.bits l.m) (tabled l.b.bits l.m 1)
+    ≡ run (row_step l.b.bits l.m (asking (root_map_test l.b.bits l.m)) 1) true (from (page_words l.b.bits - l.i-iterator.at) l.i-iterator.at))

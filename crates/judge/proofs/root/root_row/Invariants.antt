@@ -10,15 +10,9 @@ use Rattle.judge.proofs.Laws.Flat.{asked_at}
 use Rattle.judge.proofs.root.root_row.Given as goal
 
 abbrev pub invariant-loop-i : goal.invariant-loop-i
-invariant-loop-i l = (l.i ≤ l.e) × Counted (run (asking (asked_at l.b l.t l.flat l.v.0 l.pt l.s2)) true (from (page_words l.b) 0))
-    (asked_at l.b l.t l.flat l.v.0 l.pt l.s2) (page_words l.b) l.i l.k
-
-abbrev pub decreases-loop-i : goal.decreases-loop-i
-decreases-loop-i l = l.e - l.i
+invariant-loop-i l = (l.i ≤ l.e) × Counted (run (asking (asked_at l.b.bits l.t l.flat l.v.0 l.pt l.s2)) true (from (page_words l.b.bits) 0))
+    (asked_at l.b.bits l.t l.flat l.v.0 l.pt l.s2) (page_words l.b.bits) l.i l.k
 
 abbrev pub invariant-loop-j : goal.invariant-loop-j
-invariant-loop-j l = (l.j ≤ page_words l.b) × (run (asking (asked_at l.b l.t l.flat l.v.0 l.pt l.s2)) true (from (page_words l.b) 0)
-    ≡ run (asking (asked_at l.b l.t l.flat l.v.0 l.pt l.s2)) true (from (page_words l.b - l.j) l.j))
-
-abbrev pub decreases-loop-j : goal.decreases-loop-j
-decreases-loop-j l = page_words l.b - l.j
+invariant-loop-j l = (l.j ≤ page_words l.b.bits) × (run (asking (asked_at l.b.bits l.t l.flat l.v.0 l.pt l.s2)) true (from (page_words l.b.bits) 0)
+    ≡ run (asking (asked_at l.b.bits l.t l.flat l.v.0 l.pt l.s2)) true (from (page_words l.b.bits - l.j) l.j))

@@ -25,7 +25,7 @@ returns-then-not-root_test c = rw (c.requires.header, no c.root_test.ensures (ap
 pub tree_test-requires : goal.tree_test-requires
 tree_test-requires c =
     let h = c.requires in
-    record { width = h.width; outside = (start-marks c.mark_outside.ensures c.pages.ensures h.clear).0 }
+    record { outside = (start-marks c.mark_outside.ensures c.pages.ensures h.clear).0 }
 
 pub returns-then-not-tree_test : goal.returns-then-not-tree_test
 unfolding quick_test
@@ -37,7 +37,7 @@ returns-then-not-tree_test c =
     let mark-outside = c.mark_outside in
     let n = c.pages in
     let tree = c.tree_test.ensures
-    ∙ ap (λ (s : Seen). judged a.b a.m.now (judge a.b a.m.now s)) (start-marks mark-outside.ensures n.ensures h.clear).1 in
+    ∙ ap (λ (s : Seen). judged a.b.bits a.m.now (judge a.b.bits a.m.now s)) (start-marks mark-outside.ensures n.ensures h.clear).1 in
     rw (h.header, yes root-test.ensures (ap not first.false), no tree (ap not c.if-not-tree_test.true))
 
 pub returns : goal.returns
@@ -50,6 +50,6 @@ returns c =
     let mark-outside = c.mark_outside in
     let n = c.pages in
     let tree = c.tree_test.ensures
-    ∙ ap (λ (s : Seen). judged a.b a.m.now (judge a.b a.m.now s)) (start-marks mark-outside.ensures n.ensures h.clear).1 in
+    ∙ ap (λ (s : Seen). judged a.b.bits a.m.now (judge a.b.bits a.m.now s)) (start-marks mark-outside.ensures n.ensures h.clear).1 in
     rw (h.header, yes root-test.ensures (ap not first.false), yes tree (ap not c.if-not-tree_test.false))
-    (c.under.ensures ∙ ap (under a.b a.m.now most_depth) c.current.ensures)
+    (c.under.ensures ∙ ap (under a.b.bits a.m.now most_depth) c.current.ensures)

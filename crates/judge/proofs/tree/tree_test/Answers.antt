@@ -15,7 +15,7 @@ returns-then-not-judge_root c =
     let s = c.args in
     let judge-root = c.judge_root in
     let h = c.requires in
-    judged-no s.b s.m.now
+    judged-no s.b.bits s.m.now
     (within-no _ s.seen.now h.outside _ _ _ _ _
     (failed _ judge-root.result (marks_in judge-root.new.seen) judge-root.ensures (not-true _ (ap not c.if-not-judge_root.true))))
 
@@ -27,4 +27,4 @@ returns c =
     let w = within-yes _ s.seen.now h.outside _ _ _ most_depth 1
     judge-root.new.seen judge-root.auto.seen
     (passed _ judge-root.result (marks_in judge-root.new.seen) judge-root.ensures (not-false _ (ap not c.if-not-judge_root.false))) in
-    c.all_marked.ensures ∙ sym (judged-yes s.b s.m.now w.0 w.1 ∙ w.2)
+    c.all_marked.ensures ∙ sym (judged-yes s.b.bits s.m.now w.0 w.1 ∙ w.2)

@@ -34,18 +34,18 @@ bounds-answers-p-2 c =
 pub write_words-requires : goal.write_words-requires
 write_words-requires c =
     let k = twelve-places c.args.ws.now c.args.i c.read.ensures c.if-read-ne15.false in
-    let l = resumed-length c.args.m.now c.read-2.result c.read-3.result c.resume-r.ensures.1 in
+    let l = resumed-length c.args.m.now c.read-2.result c.read-3.result c.resume-answer.ensures.1 in
     simp length-set (omega (arith, c.requires.room, k, l))
 
 pub shape_of-answers : goal.shape_of-answers
 shape_of-answers c =
     let s = c.args in
     let x = c.pack-2.result in
-    reply-length s.answers.now s.p x c.resume-r.result.words c.write_words.ensures
+    reply-length s.answers.now s.p x c.resume-answer.result.words c.write_words.ensures
 
 pub returns : goal.returns
 returns c =
     let pack2 = c.pack-2.ensures in
     let s = c.args in
     resume_replied s.ws.now s.i c.read.ensures s.m.now s.answers.now s.p pack2 c.if-read-ne15.false
-    c.read-2.ensures c.read-3.ensures c.resume-r.ensures c.write_words.ensures
+    c.read-2.ensures c.read-3.ensures c.resume-answer.ensures c.write_words.ensures

@@ -4,34 +4,19 @@ use Rattle.kernel.proofs.Words.{whole_parts}
 use Rattle.kernel.proofs.Numbered.{same-call, fourteen, call-of, is-notify, is-dispatch}
 use Rattle.kernel.proofs.replies.single.Goals as goal
 
-pub arguments-a-requires : goal.arguments-a-requires
-arguments-a-requires c =
-    omega (arith, (whole_parts c.args.ws.now c.args.i c.requires.i_value).1)
-
-pub returns-then-n-le12 : goal.returns-then-n-le12
-returns-then-n-le12 c =
+pub returns-in-0-to-12 : goal.returns-in-0-to-12
+returns-in-0-to-12 c =
     let s = c.args in
-    let read = c.read-n.ensures in
-    let e = call-of s.ws.now s.i read c.arguments-a.ensures c.if-n-le12.true in
-    same-call s.m.now e c.numbered_call.ensures
+    same-call s.m.now (call-of s.ws.now s.i c.read-n.ensures c.arguments-a.ensures (omega arith)) c.numbered_call.ensures
 
-pub registers-requires : goal.registers-requires
-registers-requires c =
-    omega (arith, (whole_parts c.args.ws.now c.args.i c.requires.i_value).1)
-
-pub returns-then-n-eq13 : goal.returns-then-n-eq13
-returns-then-n-eq13 c =
+pub returns-in-13 : goal.returns-in-13
+returns-in-13 c =
     let s = c.args in
-    let read = c.read-n.ensures in
-    let registers = c.registers.ensures in
-    let e = is-notify s.ws.now s.i read c.arguments-a.ensures registers c.if-n-eq13.true in
-    same-call s.m.now e c.notify.ensures
+    same-call s.m.now (is-notify s.ws.now s.i c.read-n.ensures c.arguments-a.ensures c.registers.ensures c.in-13.is) c.notify.ensures
 
-pub returns : goal.returns
-returns c =
-    let a = c.args in
-    let read = c.read-n.ensures in
-    let arguments = c.arguments-a.ensures in
-    let known = (whole_parts a.ws.now a.i c.requires.i_value).0 in
-    let k = fourteen read known c.requires.other c.if-n-le12.false c.if-n-eq13.false in
-    same-call a.m.now (is-dispatch a.ws.now a.i read arguments k) c.dispatch.ensures
+pub returns-in_default : goal.returns-in_default
+returns-in_default c =
+    let s = c.args in
+    let known = (whole_parts s.ws.now s.i c.requires.i_value).0 in
+    let k = fourteen c.read-n.ensures known c.requires.other (omega arith) (omega arith) in
+    same-call s.m.now (is-dispatch s.ws.now s.i c.read-n.ensures c.arguments-a.ensures k) c.dispatch.ensures

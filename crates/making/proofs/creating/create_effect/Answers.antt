@@ -8,20 +8,14 @@ use Rattle.making.proofs.creating.create_effect.Goals as goal
 
 pub fill_page-requires : goal.fill_page-requires
 fill_page-requires c =
-    let h = c.requires in
+    let h = c.args.b.known in
     let s = c.args in
-    record { width = h; fits = omega (arith, words-least s.b h.0) }
-
-pub write_word-requires : goal.write_word-requires
-write_word-requires c = c.requires
-
-pub set_lent-requires : goal.set_lent-requires
-set_lent-requires c = c.requires
+    record { fits = omega (arith, words-least s.b.bits h.0) }
 
 pub returns : goal.returns
 returns c =
     let five : length c.args.five ≡ 5 = omega (arith, c.well_formed.1.1.0) in
-    effect_is c.args.b c.args.m.now
+    effect_is c.args.b.bits c.args.m.now
     c.args.five five
     c.current-d.ensures c.read_word.ensures c.frame-own.ensures.0 c.descriptor_words-ws.ensures c.mapping.ensures
     c.page_of-p.ensures c.mapping-2.ensures c.page_of-l.ensures

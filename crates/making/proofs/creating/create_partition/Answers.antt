@@ -5,16 +5,13 @@ use Rattle.moves.proofs.Whole.{refused, done}
 use Rattle.making.specs.Group.{creating}
 use Rattle.making.proofs.creating.create_partition.Goals as goal
 
-pub returns-then-n-ne0 : goal.returns-then-n-ne0
-returns-then-n-ne0 c =
+pub returns-in_err-create_refusal : goal.returns-in_err-create_refusal
+returns-in_err-create_refusal c =
     let s = c.args in
-    let r = c.create_refusal-n in
-    refused s.b s.m.now (creating s.five) r.result r.ensures.0 0 c.reply.ensures c.if-n-ne0.true
+    refused s.b.bits s.m.now (creating s.five) c.from_residual.result _ c.from_residual.ensures.1 c.in_err-create_refusal.ensures
 
 pub returns : goal.returns
 unfolding result
 returns c =
-    let first = c.if-n-ne0 in
     let s = c.args in
-    let r = c.create_refusal-n in
-    done s.b s.m.now (creating s.five) r.result r.ensures.0 0 c.reply-2.ensures refl c.create_effect.ensures first.false
+    done s.b.bits s.m.now (creating s.five) c.in_ok-create_refusal.ensures 0 refl c.create_effect.ensures

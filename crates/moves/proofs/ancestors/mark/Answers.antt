@@ -1,34 +1,35 @@
--- `moves::ancestors::mark` meets its contract. What is left of the walk, from the partition that is reached, comes to the whole walk. The measure is the partitions left. Assumes nothing.
-use mathlib.Core.Path.{◌∙◌}
+-- `moves::ancestors::mark` meets its contract. What is left of the walk, from the partition that is reached, comes to the whole walk. Assumes nothing.
+use mathlib.Core.Path.{◌≡◌, ap, ◌∙◌}
+use Prim.Native.Nat.{ℕ, ◌+◌, ◌-◌}
 use native.Mathlib.Omega.{arith}
+use Rattle.rules.specs.Moves.{mark}
 use Rattle.moves.proofs.Walks.{turn-root, turn_up, turn-none}
 use Rattle.moves.proofs.ancestors.mark.Goals as goal
 
 pub returns-then-par-eq0 : goal.returns-then-par-eq0
 returns-then-par-eq0 c =
     let s = c.args in
-    let p = c.loop-left in
-    turn-root s.b s.bit p.m c.set_mapping.new.m p.d.0 p.v c.mapping-w.result c.rights.result
+    let p = c.loop in
+    turn-root s.b.bits s.bit p.m c.set_mapping.new.m p.d.0 p.v c.mapping-w.result c.rights.result
     c.entry_of.result
-    c.parent-par.result.0 p.left c.mapping-w.ensures c.rights.ensures c.entry_of.ensures c.set_mapping.ensures
+    c.parent-par.result.0 (9 - p.counter) c.mapping-w.ensures c.rights.ensures c.entry_of.ensures c.set_mapping.ensures
     c.parent-par.ensures (omega arith) c.if-par-eq0.true
-    ∙ p.invariant.0
+    ∙ p.invariant
 
-pub loop-left-preserved : goal.loop-left-preserved
-loop-left-preserved c =
+pub loop-preserved : goal.loop-preserved
+loop-preserved c =
     let s = c.args in
-    let p = c.loop-left in (
-      turn_up s.b s.bit p.m c.set_mapping.new.m p.d.0 p.v c.mapping-w.result c.rights.result
-          c.entry_of.result
-          c.parent-par.result.0 p.left c.mapping-w.ensures c.rights.ensures c.entry_of.ensures c.set_mapping.ensures
-          c.parent-par.ensures (omega arith) c.above-up.result c.above-up.ensures c.if-par-eq0.false
-          ∙ p.invariant.0,
-      omega arith,
-      omega arith,
-    )
+    let p = c.loop in
+    let left : 9 - (p.counter + 1) ≡ 9 - p.counter - 1 = omega arith in
+    ap (λ (n : ℕ). mark s.b.bits n s.bit c.set_mapping.new.m c.parent-par.result.0 c.above-up.result) left
+    ∙ turn_up s.b.bits s.bit p.m c.set_mapping.new.m p.d.0 p.v c.mapping-w.result c.rights.result
+    c.entry_of.result
+    c.parent-par.result.0 (9 - p.counter) c.mapping-w.ensures c.rights.ensures c.entry_of.ensures c.set_mapping.ensures
+    c.parent-par.ensures (omega arith) c.above-up.result c.above-up.ensures c.if-par-eq0.false
+    ∙ p.invariant
 
 pub returns : goal.returns
 returns c =
     let s = c.args in
-    let p = c.loop-left in
-    turn-none s.b s.bit p.m p.d.0 p.v p.left (omega arith) ∙ p.invariant.0
+    let p = c.loop in
+    turn-none s.b.bits s.bit p.m p.d.0 p.v (9 - p.counter) (omega arith) ∙ p.invariant

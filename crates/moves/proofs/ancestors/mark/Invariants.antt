@@ -1,12 +1,8 @@
--- `moves::ancestors::mark` meets its contract. What is left of the walk, from the partition that is reached, comes to the whole walk. The measure is the partitions left. Assumes nothing.
+-- `moves::ancestors::mark` meets its contract. What is left of the walk, from the partition that is reached, comes to the whole walk. Assumes nothing.
 use mathlib.Core.Path.{◌≡◌}
-use Prim.Native.Nat.{◌≤◌}
-use lib.ListN.{length}
+use Prim.Native.Nat.{◌-◌}
 use Rattle.rules.specs.Moves.{mark}
 use Rattle.moves.proofs.ancestors.mark.Given as goal
 
-abbrev pub invariant-loop-left : goal.invariant-loop-left
-invariant-loop-left l = (mark l.b l.left l.bit l.m l.d.0 l.v ≡ mark l.b 9 l.bit l.initial.m l.initial.d.0 l.initial.v) × (l.left ≤ 9) × (length l.m ≡ length l.initial.m)
-
-abbrev pub decreases-loop-left : goal.decreases-loop-left
-decreases-loop-left l = l.left
+abbrev pub invariant-loop : goal.invariant-loop
+invariant-loop l = mark l.b.bits (9 - l.counter) l.bit l.m l.d.0 l.v ≡ mark l.b.bits 9 l.bit l.initial.m l.initial.d.0 l.initial.v

@@ -10,4 +10,4 @@ unfolding take_page
 returns c =
     let wipe-at = c.wipe_at in
     let s = c.args in
-    c.mark.ensures ∙ ap (λ (x : List ℕ). mark s.b 9 0 x s.d.0 s.a) wipe-at.ensures
+    c.mark.ensures ∙ ap (λ (x : List ℕ). mark s.b.bits 9 0 x s.d.0 s.a) wipe-at.ensures

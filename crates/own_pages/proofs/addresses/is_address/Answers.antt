@@ -6,4 +6,4 @@ use Rattle.own_pages.proofs.Laws.Tests.{same-eqb}
 use Rattle.own_pages.proofs.addresses.is_address.Goals as goal
 
 pub returns : goal.returns
-returns c = same-eqb refl (ap (λ (x : ℕ). 4 * x) c.index.ensures.0 ∙ address_by_index c.args.b c.args.p.0)
+returns c = same-eqb refl (ap (λ (x : ℕ). 4 * x) c.index.ensures.0 ∙ address_by_index c.args.b.bits c.args.p.0)

@@ -15,16 +15,16 @@ overflow_mul-n c =
 
 pub overflow_sub-n : goal.overflow_sub-n
 overflow_sub-n c =
-    let l = subst (λ (n : ℕ). 0 < n) (sym c.page_words-n.ensures.0) (pow_pos c.args.b) in
+    let l = subst (λ (n : ℕ). 0 < n) (sym c.page_words-n.ensures.0) (pow_pos c.args.b.bits) in
     mul-pos l l
 
 pub address_of-requires : goal.address_of-requires
 address_of-requires c =
-    let b = c.args.b in
-    let h = c.requires in
-    record { width = h; fits = subst (λ (n : ℕ). address b (n * n - 1) < 4294967296) (sym c.page_words-n.ensures.0) (last_fits b h.1) }
+    let b = c.args.b.bits in
+    let h = c.args.b.known in
+    record { fits = subst (λ (n : ℕ). address b (n * n - 1) < 4294967296) (sym c.page_words-n.ensures.0) (last_fits b h.1) }
 
 pub returns : goal.returns
 returns c =
-    let b = c.args.b in
+    let b = c.args.b.bits in
     c.address_of.ensures ∙ ap (λ (n : ℕ). address b (n * n - 1)) c.page_words-n.ensures.0

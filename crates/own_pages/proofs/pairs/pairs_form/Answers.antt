@@ -1,33 +1,12 @@
 -- `own_pages::pairs::pairs_form` meets its contract. Assumes nothing.
-use mathlib.Core.Bool.{not}
-use mathlib.Core.Path.{ap}
-use mathlib.Core.Path.{refl, ◌∙◌}
-use native.Mathlib.Omega.{arith}
+use mathlib.Core.Path.{refl}
+use Rattle.std.proofs.Common.{rules, tests}
 use Rattle.own_pages.specs.Asked.{pair_form}
-use Rattle.own_pages.proofs.Laws.Asked.{pair-form_as}
-use Rattle.own_pages.proofs.Laws.Loops.{all_start, all_go, all-stop, all_end}
+use Rattle.own_pages.proofs.Laws.Loops.{all_over}
 use Rattle.own_pages.proofs.pairs.pairs_form.Goals as goal
-
-pub loop-j-init : goal.loop-j-init
-loop-j-init c = all_start (pair_form c.args.b c.args.m.now c.args.p.0 c.args.k) c.args.n 0 refl refl
-
-pub returns-then-not-pair_form : goal.returns-then-not-pair_form
-returns-then-not-pair_form c =
-    let s = c.args in
-    let p = c.loop-j in
-    let pair-at = c.pair_at in
-    all-stop (pair_form s.b s.m.now s.p.0 s.k) s.n p.j (omega arith)
-    (c.pair_form.ensures ∙ pair-form_as s.b s.m.now s.p.0 s.k p.j pair-at.ensures.0 pair-at.ensures.1) (ap not c.if-not-pair_form.true) p.invariant
-
-pub loop-j-preserved : goal.loop-j-preserved
-loop-j-preserved c =
-    let s = c.args in
-    let p = c.loop-j in
-    let pair-at = c.pair_at in
-    all_go (pair_form s.b s.m.now s.p.0 s.k) s.n p.j (omega arith)
-    (c.pair_form.ensures ∙ pair-form_as s.b s.m.now s.p.0 s.k p.j pair-at.ensures.0 pair-at.ensures.1) (ap not c.if-not-pair_form.false) p.invariant
 
 pub returns : goal.returns
 returns c =
     let s = c.args in
-    all_end (pair_form s.b s.m.now s.p.0 s.k) s.n c.loop-j.j (omega arith) c.loop-j.invariant
+    let f = pair_form s.b.bits s.m.now s.p.0 s.k in
+    all_over f s.n c.all.ensures.ran refl (λ x b q k. search (rules, tests))

@@ -5,5 +5,5 @@ use Rattle.own_pages.proofs.words.zero_from.Goals as goal
 pub returns : goal.returns
 returns c =
     let s = c.args in
-    page-rest s.b s.m.now s.p.0 s.k c.index.ensures.0 c.index-2.ensures.0
+    page-rest s.b.bits s.m.now s.p.0 s.k c.index.ensures.0 c.index-2.ensures.0
     c.page_words.ensures.0 c.zeros.ensures

@@ -9,6 +9,3 @@ use Rattle.own_pages.proofs.words.zeros.Given as goal
 
 abbrev pub invariant-loop-i : goal.invariant-loop-i
 invariant-loop-i l = all (λ k. eqb (get_or l.m k 0) 0) (from (l.e - l.a) l.a) ≡ eqb l.joined 0 && all (λ k. eqb (get_or l.m k 0) 0) (from (l.e - l.i) l.i)
-
-abbrev pub decreases-loop-i : goal.decreases-loop-i
-decreases-loop-i l = l.end - l.i

@@ -7,12 +7,12 @@ use Rattle.pages.proofs.addresses.bad_address.Goals as goal
 
 pub returns-then-b-a : goal.returns-then-b-a
 returns-then-b-a c =
-    sym (bad-high c.args.b c.args.unit c.args.a (omega (arith, end_shl c.args.b c.requires.width.1)))
+    sym (bad-high c.args.b.bits c.args.unit c.args.a (omega (arith, end_shl c.args.b.bits c.args.b.known.1)))
 
 pub returns-then-a-page_bytes : goal.returns-then-a-page_bytes
 returns-then-a-page_bytes c =
-    sym (bad-low c.args.b c.args.unit c.args.a (omega (arith, end_shl c.args.b c.requires.width.1)) (omega arith))
+    sym (bad-low c.args.b.bits c.args.unit c.args.a (omega (arith, end_shl c.args.b.bits c.args.b.known.1)) (omega arith))
 
 pub returns : goal.returns
 returns c =
-    sym (bad-rest c.args.b c.args.unit c.args.a (omega (arith, end_shl c.args.b c.requires.width.1)) (omega arith))
+    sym (bad-rest c.args.b.bits c.args.unit c.args.a (omega (arith, end_shl c.args.b.bits c.args.b.known.1)) (omega arith))

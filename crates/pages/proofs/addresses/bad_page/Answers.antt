@@ -7,4 +7,4 @@ use Rattle.pages.proofs.addresses.bad_page.Goals as goal
 pub returns : goal.returns
 returns c =
     let s = c.args in
-    c.bad_address.ensures ∙ ap (λ (u : ℕ). bad_address s.b u s.a) c.page_bytes.ensures.0
+    c.bad_address.ensures ∙ ap (λ (u : ℕ). bad_address s.b.bits u s.a) c.page_bytes.ensures.0

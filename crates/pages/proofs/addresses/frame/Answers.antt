@@ -7,10 +7,10 @@ use Rattle.pages.proofs.addresses.frame.Goals as goal
 
 pub address-requires : goal.address-requires
 address-requires c =
-    let e : address c.args.b c.page_of.result.0 ≡ address c.args.b (page_of c.args.b c.args.w) = ap (address c.args.b) c.page_of.ensures in
-    record { width = c.requires; fits = omega (arith, frame-room c.args.b c.args.w c.requires.0 c.requires.1 (omega arith)) }
+    let e : address c.args.b.bits c.page_of.result.0 ≡ address c.args.b.bits (page_of c.args.b.bits c.args.w) = ap (address c.args.b.bits) c.page_of.ensures in
+    record { fits = omega (arith, frame-room c.args.b.bits c.args.w c.args.b.known.0 c.args.b.known.1 (omega arith)) }
 
 pub returns : goal.returns
 returns c =
-    let e : c.address.result ≡ address c.args.b (page_of c.args.b c.args.w) = c.address.ensures ∙ ap (address c.args.b) c.page_of.ensures in
-    (e, omega (arith, frame-room c.args.b c.args.w c.requires.0 c.requires.1 (omega arith)))
+    let e : c.address.result ≡ address c.args.b.bits (page_of c.args.b.bits c.args.w) = c.address.ensures ∙ ap (address c.args.b.bits) c.page_of.ensures in
+    (e, omega (arith, frame-room c.args.b.bits c.args.w c.args.b.known.0 c.args.b.known.1 (omega arith)))

@@ -4,4 +4,4 @@ use Rattle.memory.proofs.Widths.{page_by_shift}
 use Rattle.pages.proofs.addresses.page_of.Goals as goal
 
 pub returns : goal.returns
-returns c = c.high.ensures ∙ page_by_shift c.args.b c.args.w
+returns c = c.high.ensures ∙ page_by_shift c.args.b.bits c.args.w

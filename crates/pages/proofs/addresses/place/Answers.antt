@@ -5,4 +5,4 @@ use Rattle.memory.proofs.Widths.{bytes-is}
 use Rattle.pages.proofs.addresses.place.Goals as goal
 
 pub returns : goal.returns
-returns c = c.low.ensures ∙ ap (λ (x : ℕ). c.args.a % x) (bytes-is c.args.b)
+returns c = c.low.ensures ∙ ap (λ (x : ℕ). c.args.a % x) (bytes-is c.args.b.bits)

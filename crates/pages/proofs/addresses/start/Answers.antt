@@ -3,4 +3,4 @@ use Rattle.memory.proofs.Widths.{address_by_shift}
 use Rattle.pages.proofs.addresses.start.Goals as goal
 
 pub returns : goal.returns
-returns c = address_by_shift c.args.b c.args.k c.requires.fits
+returns c = address_by_shift c.args.b.bits c.args.k c.requires.fits

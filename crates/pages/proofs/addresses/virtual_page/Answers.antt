@@ -4,4 +4,4 @@ use Rattle.memory.proofs.Widths.{page_by_shift}
 use Rattle.pages.proofs.addresses.virtual_page.Goals as goal
 
 pub returns : goal.returns
-returns c = c.high.ensures ∙ page_by_shift c.args.b c.args.a
+returns c = c.high.ensures ∙ page_by_shift c.args.b.bits c.args.a

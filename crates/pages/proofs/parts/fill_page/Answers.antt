@@ -5,7 +5,7 @@ use Rattle.pages.proofs.parts.fill_page.Goals as goal
 
 pub returns : goal.returns
 returns c =
-    let least = c.least-a in
+    let min = c.min-a in
     let copy = c.copy in
-    fill-back c.args.b c.args.m.now c.args.p.0 least.result c.least-e.result (omega arith) (omega arith)
+    fill-back c.args.b.bits c.args.m.now c.args.p.0 min.result c.min-e.result (omega arith) (omega arith)
     c.args.ws.now copy.new.s c.requires.fits copy.ensures

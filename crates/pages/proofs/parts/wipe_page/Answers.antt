@@ -13,4 +13,4 @@ returns c =
     let index = c.index in
     let size = c.page_words in
     c.wipe_words.ensures
-    ∙ ap₂ (λ (i n : ℕ). overwrite s.m.now i (replicate n 0)) (index.ensures.0 ∙ add-zero (start s.b s.p.0)) size.ensures.0
+    ∙ ap₂ (λ (i n : ℕ). overwrite s.m.now i (replicate n 0)) (index.ensures.0 ∙ add-zero (start s.b.bits s.p.0)) size.ensures.0

@@ -11,6 +11,6 @@ pub returns : goal.returns
 returns c =
     let index = c.index in
     let s = c.args in
-    part-is s.m.now (s.p.0 * page_words s.b) (page_words s.b)
-    (c.least-a.ensures ∙ ap (λ (x : ℕ). min x (length s.m.now)) (index.ensures.0 ∙ omega arith))
-    (c.least-e.ensures ∙ ap (λ (x : ℕ). min x (length s.m.now)) (c.index-2.ensures.0 ∙ ap (λ (x : ℕ). s.p.0 * page_words s.b + x) c.page_words.ensures.0))
+    part-is s.m.now (s.p.0 * page_words s.b.bits) (page_words s.b.bits)
+    (c.min-a.ensures ∙ ap (λ (x : ℕ). min x (length s.m.now)) (index.ensures.0 ∙ omega arith))
+    (c.min-e.ensures ∙ ap (λ (x : ℕ). min x (length s.m.now)) (c.index-2.ensures.0 ∙ ap (λ (x : ℕ). s.p.0 * page_words s.b.bits + x) c.page_words.ensures.0))

@@ -5,5 +5,5 @@ use Rattle.pages.proofs.widths.page_words.Goals as goal
 
 pub returns : goal.returns
 returns c =
-    let e = one_shl c.args.b c.requires.1 in
-    (e, omega (arith, words-most c.args.b c.requires.1))
+    let e = one_shl c.args.b.bits c.args.b.known.1 in
+    (e, omega (arith, words-most c.args.b.bits c.args.b.known.1))

@@ -10,11 +10,11 @@ pub address_of-requires : goal.address_of-requires
 address_of-requires c =
     let h = c.requires in
     let s = c.args in
-    let e = c.flat_pages-f.ensures ∙ ap (Geometry.flat_pages s.b) c.pages.ensures in
-    record { width = h.width; fits = end_fits s.b s.m.now h.width.1 h.sound _ (omega (arith, e)) }
+    let e = c.flat_pages-f.ensures ∙ ap (Geometry.flat_pages s.b.bits) c.pages.ensures in
+    record { fits = end_fits s.b.bits s.m.now s.b.known.1 h.sound _ (omega (arith, e)) }
 
 pub returns : goal.returns
 returns c =
     let s = c.args in
-    c.address_of.ensures ∙ ap (λ (n : ℕ). Geometry.address s.b (n + 1))
-    (c.flat_pages-f.ensures ∙ ap (Geometry.flat_pages s.b) c.pages.ensures)
+    c.address_of.ensures ∙ ap (λ (n : ℕ). Geometry.address s.b.bits (n + 1))
+    (c.flat_pages-f.ensures ∙ ap (Geometry.flat_pages s.b.bits) c.pages.ensures)

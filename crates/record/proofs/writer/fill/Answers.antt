@@ -15,6 +15,6 @@ returns c =
     let put-bytes3 = c.put_bytes-3 in
     let put-bytes4 = c.put_bytes-4 in
     let s = c.args in
-    in_parts s.b s.m.now s.revision.now s.out.now begin.result end.result put-bytes.new.out put-bytes2.new.out
+    in_parts s.b.bits s.m.now s.revision.now s.out.now begin.result end.result put-bytes.new.out put-bytes2.new.out
     put-bytes3.new.out put-bytes4.new.out (begin.ensures ∙ ap little_endian page-bytes.ensures.0)
     (end.ensures ∙ ap little_endian end_byte.ensures) put-bytes.ensures put-bytes2.ensures put-bytes3.ensures put-bytes4.ensures

@@ -30,4 +30,4 @@ returns c =
     let s = c.args in
     let e = ap (λ (f : ℕ). decimal s.n ++ (32 ∷ []) ++ decimal f ++ (10 ∷ [])) flat-pages.ensures in
     let p = put_same e (put_then (put_then (put_then put-decimal.ensures put.ensures) put-decimal2.ensures) c.put.ensures) in
-    (p, omega (arith, p.next, first-most s.b s.n))
+    (p, omega (arith, p.next, first-most s.b.bits s.n))

@@ -20,9 +20,9 @@ returns-then-not-mark_page c =
     let threes = c.threes in
     let p = c.loop-j in
     let mark-page = c.mark_page in
-    mark-failed (five_pages s.b s.m.now s.d.0 ++ listed_pages s.b s.m.now s.d.0) p.j (marks_in p.seen) mark-page.result
+    mark-failed (five_pages s.b.bits s.m.now s.d.0 ++ listed_pages s.b.bits s.m.now s.d.0) p.j (marks_in p.seen) mark-page.result
     (marks_in mark-page.new.seen)
-    (omega (arith, threes.ensures, front s.b s.m.now s.d.0)) c.kernel_page.ensures mark-page.ensures (ap not c.if-not-mark_page.true)
+    (omega (arith, threes.ensures, front s.b.bits s.m.now s.d.0)) c.kernel_page.ensures mark-page.ensures (ap not c.if-not-mark_page.true)
     p.invariant.1
 
 pub loop-j-preserved : goal.loop-j-preserved
@@ -32,14 +32,14 @@ loop-j-preserved c =
     let p = c.loop-j in
     let mark-page = c.mark_page in (
       mark-page.auto.seen ∙ p.invariant.0,
-      mark_went (five_pages s.b s.m.now s.d.0 ++ listed_pages s.b s.m.now s.d.0) p.j (marks_in p.seen) mark-page.result
+      mark_went (five_pages s.b.bits s.m.now s.d.0 ++ listed_pages s.b.bits s.m.now s.d.0) p.j (marks_in p.seen) mark-page.result
           (marks_in mark-page.new.seen)
-          (omega (arith, threes.ensures, front s.b s.m.now s.d.0)) c.kernel_page.ensures mark-page.ensures (ap not c.if-not-mark_page.false)
+          (omega (arith, threes.ensures, front s.b.bits s.m.now s.d.0)) c.kernel_page.ensures mark-page.ensures (ap not c.if-not-mark_page.false)
           p.invariant.1,
     )
 
 pub returns : goal.returns
 returns c =
     let s = c.args in
-    mark-end (five_pages s.b s.m.now s.d.0 ++ listed_pages s.b s.m.now s.d.0) c.loop-j.j (marks_in c.loop-j.seen)
-    (omega (arith, c.threes.ensures, front s.b s.m.now s.d.0)) c.loop-j.invariant.1
+    mark-end (five_pages s.b.bits s.m.now s.d.0 ++ listed_pages s.b.bits s.m.now s.d.0) c.loop-j.j (marks_in c.loop-j.seen)
+    (omega (arith, c.threes.ensures, front s.b.bits s.m.now s.d.0)) c.loop-j.invariant.1

@@ -1,5 +1,4 @@
 -- `tally::marks::mark_kernel` meets its contract. Assumes nothing.
-use Prim.Native.Nat.{◌-◌}
 use mathlib.Core.Path.{◌≡◌}
 use mathlib.Core.List.{◌++◌}
 use lib.ListN.{length, drop}
@@ -12,8 +11,5 @@ use Rattle.tally.proofs.marks.mark_kernel.Given as goal
 abbrev pub invariant-loop-j : goal.invariant-loop-j
 invariant-loop-j l =
     (length l.seen ≡ length l.initial.seen)
-    × (marks (marks_in l.initial.seen) (five_pages l.b l.m l.d.0 ++ listed_pages l.b l.m l.d.0)
-    ≡ marks (marks_in l.seen) (drop l.j (five_pages l.b l.m l.d.0 ++ listed_pages l.b l.m l.d.0)))
-
-abbrev pub decreases-loop-j : goal.decreases-loop-j
-decreases-loop-j l = l.n - l.j
+    × (marks (marks_in l.initial.seen) (five_pages l.b.bits l.m l.d.0 ++ listed_pages l.b.bits l.m l.d.0)
+    ≡ marks (marks_in l.seen) (drop l.j (five_pages l.b.bits l.m l.d.0 ++ listed_pages l.b.bits l.m l.d.0)))

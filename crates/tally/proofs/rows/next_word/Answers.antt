@@ -64,23 +64,24 @@ loop-j-2-preserved c =
       p.invariant.1 ∙ empty-past (length s.s.now) p.j s.s.now (omega arith) told c.loop-j-2-test.true,
     )
 
-pub loop-j-3-init : goal.loop-j-3-init
-loop-j-3-init c = c.loop-j-2.invariant
+pub loop-k-init : goal.loop-k-init
+loop-k-init c = c.loop-j-2.invariant
 
-pub returns-then-s-j-ne0-2 : goal.returns-then-s-j-ne0-2
-returns-then-s-j-ne0-2 c =
+pub returns-then-s-k-ne0 : goal.returns-then-s-k-ne0
+returns-then-s-k-ne0 c =
     let s = c.args in
-    let p = c.loop-j-3 in
-    at-word s.s.now s.i p.j p.invariant (omega arith) c.if-s-j-ne0-2.true
+    let p = c.loop-k in
+    at-word s.s.now s.i p.k p.invariant (omega arith) c.if-s-k-ne0.true
 
-pub loop-j-3-preserved : goal.loop-j-3-preserved
-loop-j-3-preserved c =
+pub loop-k-preserved : goal.loop-k-preserved
+loop-k-preserved c =
     let s = c.args in
-    let p = c.loop-j-3 in
-    past_word s.s.now s.i p.j p.invariant (omega arith) c.if-s-j-ne0-2.false
+    let p = c.loop-k in
+    past_word s.s.now s.i p.k p.invariant (omega arith) c.if-s-k-ne0.false
 
 pub returns : goal.returns
 returns c =
     let s = c.args in
-    let p = c.loop-j-3 in
-    at-end s.s.now s.i p.j p.invariant (omega arith)
+    let p = c.loop-k in
+    let e : p.k ≡ length s.s.now = omega arith in
+    sym e ∙ at-end s.s.now s.i p.k p.invariant (omega arith)

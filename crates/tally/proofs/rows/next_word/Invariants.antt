@@ -23,8 +23,5 @@ invariant-loop-j-2 l = Come l.s l.i l.j
 abbrev pub decreases-loop-j-2 : goal.decreases-loop-j-2
 decreases-loop-j-2 l = length l.s - l.j
 
-abbrev pub invariant-loop-j-3 : goal.invariant-loop-j-3
-invariant-loop-j-3 l = Come l.s l.i l.j
-
-abbrev pub decreases-loop-j-3 : goal.decreases-loop-j-3
-decreases-loop-j-3 l = length l.s - l.j
+abbrev pub invariant-loop-k : goal.invariant-loop-k
+invariant-loop-k l = Come l.s l.i l.k

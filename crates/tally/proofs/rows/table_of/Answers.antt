@@ -7,9 +7,9 @@ use Rattle.tally.proofs.rows.table_of.Goals as goal
 pub returns-then-w-eq0 : goal.returns-then-w-eq0
 returns-then-w-eq0 c =
     let s = c.args in
-    sym (table_none s.b s.m.now s.w c.if-w-eq0.true)
+    sym (table_none s.b.bits s.m.now s.w c.if-w-eq0.true)
 
 pub returns : goal.returns
 returns c =
     let s = c.args in
-    c.words_of.ensures ∙ ap (page s.b s.m.now) c.page_of.ensures ∙ sym (table-some s.b s.m.now s.w c.if-w-eq0.false)
+    c.words_of.ensures ∙ ap (page s.b.bits s.m.now) c.page_of.ensures ∙ sym (table-some s.b.bits s.m.now s.w c.if-w-eq0.false)

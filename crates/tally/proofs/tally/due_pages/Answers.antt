@@ -18,6 +18,6 @@ pub returns : goal.returns
 returns c =
     let s = c.args in (
       rw (ne_eqb s.w 0 c.if-w-eq0.false, eq-eqb s.x 1 c.if-x-ne1.false)
-          (ap (λ (k : ℕ). 5 + 3 * k) (c.threes.ensures ∙ ap (threes s.b s.m.now) c.page_of.ensures)),
+          (ap (λ (k : ℕ). 5 + 3 * k) (c.from.ensures ∙ c.threes.ensures ∙ ap (threes s.b.bits s.m.now) c.page_of.ensures)),
       omega arith,
     )

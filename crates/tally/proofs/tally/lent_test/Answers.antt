@@ -13,4 +13,4 @@ pub returns : goal.returns
 returns c =
     let s = c.args in
     rw (unequal refl refl c.if-d-eq1.false)
-    (same-eqb (c.lent_count.ensures ∙ ap (λ (p : ℕ). lent_count s.b s.m.now p c.read_word.result) c.parent.ensures ∙ ap (lent_count s.b s.m.now (parent s.b s.m.now s.d.0)) c.read_word.ensures) refl)
+    (same-eqb (c.lent_count.ensures ∙ ap (λ (p : ℕ). lent_count s.b.bits s.m.now p c.read_word.result) c.parent.ensures ∙ ap (lent_count s.b.bits s.m.now (parent s.b.bits s.m.now s.d.0)) c.read_word.ensures) refl)

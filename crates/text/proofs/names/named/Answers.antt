@@ -1,32 +1,22 @@
--- `text::names::named` meets its contract. The names left decide as all of them do. The measure is their number. Assumes nothing.
-use mathlib.Core.Path.{refl, sym, ◌∙◌}
+-- `text::names::named` meets its contract. The table has the names of the definition. Assumes nothing.
+use mathlib.Core.Path.{◌≡◌, sym, ◌∙◌}
 use native.Mathlib.Omega.{arith}
-use borrow.Author.Rules.{rules}
-use Rattle.text.proofs.Called.{is-here, is_later, is_nowhere}
+use Rattle.std.proofs.Common.{rules, tests, bytes_eq}
+use Rattle.std.proofs.lemmas.Iterator.{YieldsList-from_slice}
+use Rattle.std.proofs.lemmas.Iterator.Search.{position_from_yields_List}
+use Rattle.text.specs.Names.{names}
+use Rattle.text.proofs.Called.{place, nowhere, somewhere}
 use Rattle.text.proofs.names.named.Goals as goal
 
-pub loop-k-init : goal.loop-k-init
-loop-k-init c = (search rules, search rules, refl)
-
-pub returns-then-is_name : goal.returns-then-is_name
-returns-then-is_name c =
-    let s = c.args in
-    let p = c.loop-k in (
-      sym
-          (p.invariant.2 ∙ is-here s.w.now p.k
-          (omega arith) (omega arith) (sym c.is_name.ensures ∙ c.if-is_name.true)),
-      search rules,
-    )
-
-pub loop-k-preserved : goal.loop-k-preserved
-loop-k-preserved c =
-    let s = c.args in
-    let p = c.loop-k in (
-      search rules,
-      search rules,
-      p.invariant.2 ∙ is_later s.w.now
-          p.k (omega arith) (omega arith) (sym c.is_name.ensures ∙ c.if-is_name.false),
-    )
+pub returns-in_err-place : goal.returns-in_err-place
+returns-in_err-place c =
+    let found : c.position.result ≡ place c.args.w.now names =
+    position_from_yields_List (λ n. bytes_eq c.args.w.now n.now) _ _ c.position.result c.position.ensures.ran (YieldsList-from_slice _ c.iter.ensures.rest) (λ x b q k. search (rules, tests)) in
+    rw c.from_residual.ensures (nowhere c.args.w.now (sym found ∙ c.in_err-place.was), search rules)
 
 pub returns : goal.returns
-returns c = (sym (c.loop-k.invariant.2 ∙ is_nowhere c.args.w.now c.loop-k.k (omega arith)), search rules)
+returns c =
+    let found : c.position.result ≡ place c.args.w.now names =
+    position_from_yields_List (λ n. bytes_eq c.args.w.now n.now) _ _ c.position.result c.position.ensures.ran (YieldsList-from_slice _ c.iter.ensures.rest) (λ x b q k. search (rules, tests)) in
+    let h = somewhere c.args.w.now c.in_ok-place.place (sym found ∙ c.in_ok-place.was) in
+    (h.0, (omega arith, omega (arith, h.1)))

@@ -1,34 +1,13 @@
--- `text::numbers::all_digits` meets its contract. The bytes left decide as all of them do. The measure is their number. Assumes nothing.
-use mathlib.Core.Bool.{not}
-use mathlib.Core.Path.{ap}
-use mathlib.Core.Path.{refl, sym, ◌∙◌}
-use native.Mathlib.Omega.{arith}
-use borrow.Author.Tests.{not-true, not-false}
-use borrow.Author.Rules.{rules}
-use Rattle.text.proofs.Values.{no_digit, a-digit, digits-over}
+-- `text::numbers::all_digits` meets its contract. Assumes nothing.
+use mathlib.Core.Path.{◌∙◌}
+use Rattle.std.proofs.Common.{rules, tests}
+use Rattle.std.proofs.lemmas.Iterator.{YieldsList-from_slice}
+use Rattle.std.proofs.lemmas.Iterator.Search.{all_from_yields_List}
+use Rattle.text.specs.Numbers.{is_digit}
+use Rattle.text.proofs.Values.{each-digit}
 use Rattle.text.proofs.numbers.all_digits.Goals as goal
 
-pub loop-i-init : goal.loop-i-init
-loop-i-init c = (search rules, refl)
-
-pub returns-then-not-is_digit : goal.returns-then-not-is_digit
-returns-then-not-is_digit c =
-    let s = c.args in
-    let p = c.loop-i in
-    sym
-    (p.invariant.1 ∙ no_digit s.w.now
-    p.i c.loop-i-test.true
-    (sym c.is_digit.ensures ∙ not-true _ (ap not c.if-not-is_digit.true)))
-
-pub loop-i-preserved : goal.loop-i-preserved
-loop-i-preserved c =
-    let s = c.args in
-    let p = c.loop-i in (
-      search rules,
-      p.invariant.1 ∙ a-digit s.w.now
-          p.i c.loop-i-test.true
-          (sym c.is_digit.ensures ∙ not-false _ (ap not c.if-not-is_digit.false)),
-    )
-
 pub returns : goal.returns
-returns c = sym (c.loop-i.invariant.1 ∙ digits-over c.args.w.now c.loop-i.i (omega arith))
+returns c =
+    all_from_yields_List is_digit _ _ _ c.all.ensures.ran (YieldsList-from_slice c.args.w.now c.iter.ensures.rest) (λ x b q k. search (rules, tests))
+    ∙ each-digit c.args.w.now

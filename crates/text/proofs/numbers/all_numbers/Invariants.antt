@@ -2,12 +2,12 @@
 use mathlib.Core.Path.{◌≡◌}
 use Prim.Native.Nat.{◌-◌, ◌≤◌}
 use lib.ListN.{length, drop}
-use Rattle.text.specs.Numbers.{all_numbers}
 use Rattle.text.specs.Text.{split}
+use Rattle.text.specs.Numbers.{all_numbers}
 use Rattle.text.proofs.numbers.all_numbers.Given as goal
 
-abbrev pub invariant-loop-i : goal.invariant-loop-i
-invariant-loop-i l = (l.i ≤ length l.s) × (all_numbers (split l.s) ≡ all_numbers (split (drop l.i l.s)))
+abbrev pub invariant-loop-word : goal.invariant-loop-word
+invariant-loop-word l = (l.i ≤ length l.s) × (all_numbers (split l.s) ≡ all_numbers (split (drop l.i l.s)))
 
-abbrev pub decreases-loop-i : goal.decreases-loop-i
-decreases-loop-i l = length l.s - l.i
+abbrev pub decreases-loop-word : goal.decreases-loop-word
+decreases-loop-word l = length l.s - l.i

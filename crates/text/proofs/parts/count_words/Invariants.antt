@@ -5,8 +5,8 @@ use lib.ListN.{length, drop}
 use Rattle.text.specs.Text.{split}
 use Rattle.text.proofs.parts.count_words.Given as goal
 
-abbrev pub invariant-loop-n : goal.invariant-loop-n
-invariant-loop-n l = (l.i ≤ length l.s) × (l.n ≤ l.i) × (length (split l.s) ≡ l.n + length (split (drop l.i l.s)))
+abbrev pub invariant-loop-word : goal.invariant-loop-word
+invariant-loop-word l = (l.i ≤ length l.s) × (l.n ≤ l.i) × (l.n + length (split (drop l.i l.s)) ≡ length (split l.s))
 
-abbrev pub decreases-loop-n : goal.decreases-loop-n
-decreases-loop-n l = length l.s - l.i
+abbrev pub decreases-loop-word : goal.decreases-loop-word
+decreases-loop-word l = length l.s - l.i

@@ -1,39 +1,22 @@
--- `text::parts::leading` meets its contract. The bytes passed are all of the kind. The measure is what is left. Assumes nothing.
+-- `text::parts::leading` meets its contract. Assumes nothing.
 use mathlib.Core.Bool.{not}
-use mathlib.Core.Path.{ap}
-use mathlib.Core.Path.{sym, ◌∙◌}
+use mathlib.Core.Path.{◌≡◌, ap, ◌∙◌}
+use Prim.Native.Nat.{ℕ}
+use lib.ListN.{length}
 use native.Mathlib.Omega.{arith}
-use borrow.Author.Tests.{not-true, not-false}
-use borrow.Author.Rules.{rules}
-use Rattle.text.proofs.Splits.{stops, goes, over}
+use Rattle.std.proofs.Common.{rules, tests, Option}
+use Rattle.std.proofs.lemmas.Iterator.{YieldsList-from_slice}
+use Rattle.std.proofs.lemmas.Iterator.Search.{position_from_yields_List}
+use Rattle.std.specs.List.{position}
+use Rattle.std.specs.Option.{unwrap_or}
+use Rattle.text.specs.Steps.{is_kind}
+use Rattle.text.proofs.Splits.{leading-place, leading-most}
 use Rattle.text.proofs.parts.leading.Goals as goal
-
-pub loop-i-init : goal.loop-i-init
-loop-i-init c = (search rules, omega arith)
-
-pub returns-then-not-is_kind : goal.returns-then-not-is_kind
-returns-then-not-is_kind c =
-    let s = c.args in
-    omega (
-      arith,
-      stops s.s.now s.t
-          c.loop-i.i c.loop-i-test.true
-          (sym c.is_kind.ensures ∙ not-true _ (ap not c.if-not-is_kind.true)),
-    )
-
-pub loop-i-preserved : goal.loop-i-preserved
-loop-i-preserved c =
-    let s = c.args in (
-      search rules,
-      omega (
-        arith,
-        goes s.s.now s.t
-            c.loop-i.i c.loop-i-test.true
-            (sym c.is_kind.ensures ∙ not-false _ (ap not c.if-not-is_kind.false)),
-      ),
-    )
 
 pub returns : goal.returns
 returns c =
-    let s = c.args in
-    omega (arith, over s.s.now s.t c.loop-i.i (omega arith))
+    let s = c.args.s.now in
+    let p : c.position.result ≡ position (λ (x : ℕ). not (is_kind c.args.t x)) s =
+    position_from_yields_List (λ (x : ℕ). not (is_kind c.args.t x)) _ _ c.position.result c.position.ensures.ran (YieldsList-from_slice s c.iter.ensures.rest) (λ x b q k. search (rules, tests)) in
+    let e = c.unwrap_or.ensures ∙ ap (λ (o : Option ℕ). unwrap_or o (length s)) p ∙ leading-place c.args.t s in
+    (e, omega (arith, e, leading-most c.args.t s))

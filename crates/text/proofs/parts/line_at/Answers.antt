@@ -5,8 +5,4 @@ use Rattle.text.proofs.parts.line_at.Goals as goal
 pub returns : goal.returns
 returns c =
     let s = c.args in
-    let h = c.requires in
-    let find = c.find in
-    line-is s.text.now s.i
-    find.result c.find-2.result (h) find.ensures.0
-    find.ensures.1 c.find-2.ensures.0 c.find-2.ensures.1
+    line-is s.text.now s.i c.find.result c.find-2.result c.requires c.find.ensures.0 c.find.ensures.1 c.find-2.ensures.0 c.find-2.ensures.1

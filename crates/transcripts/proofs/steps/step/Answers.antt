@@ -1,8 +1,7 @@
 -- `transcripts::steps::step` meets its contract. The number and the five words are the record's call. Assumes nothing.
-use mathlib.Core.Path.{ap}
+use mathlib.Core.Path.{refl}
 use native.Mathlib.Omega.{arith}
 use Rattle.script.proofs.Walks.{whole?}
-use Rattle.kernel.specs.Called.{called}
 use Rattle.transcripts.proofs.Calls.{record_answer, record_known, record_after}
 use Rattle.transcripts.proofs.steps.step.Goals as goal
 
@@ -11,18 +10,14 @@ word_in-n-requires c =
     let s = c.args in
     omega (arith, ((whole? s.bytes.now s.i).0 c.requires).1)
 
-pub returns-in-Answered : goal.returns-in-Answered
-returns-in-Answered c =
-    let n = c.word_in-n.ensures in
-    let a = c.arguments-a.ensures in
-    let r = c.by_number-r.ensures in (
-      record_answer c.args.m.now c.args.bytes.now c.args.i c.requires n a (ap called c.in-Answered.is) r.0,
-      record_after c.args.m.now c.args.bytes.now c.args.i c.requires n a r.1,
-    )
+pub unreachable-requires : goal.unreachable-requires
+unreachable-requires c =
+    record_known c.args.m.now c.args.bytes.now c.args.i c.requires c.word_in-n.ensures c.arguments-a.ensures refl c.in-None.ensures.0
 
-pub returns-in-Unknown : goal.returns-in-Unknown
-returns-in-Unknown c =
+pub returns : goal.returns
+returns c =
+    let s = c.args in
     let n = c.word_in-n.ensures in
     let a = c.arguments-a.ensures in
-    let r = c.by_number-r.ensures in
-    absurd (record_known c.args.m.now c.args.bytes.now c.args.i c.requires n a (ap called c.in-Unknown.is) r.0)
+    let r = c.in-Some.ensures in
+    (record_answer s.m.now s.bytes.now s.i c.requires n a refl r.0, record_after s.m.now s.bytes.now s.i c.requires n a r.1)

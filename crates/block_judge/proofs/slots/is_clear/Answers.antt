@@ -1,6 +1,0 @@
--- `block_judge::slots::is_clear` meets its contract. Words joined as bits are 0 where each of them is. Assumes nothing.
-use Rattle.block_judge.proofs.Uses.{clear_as}
-use Rattle.block_judge.proofs.slots.is_clear.Goals as goal
-
-pub returns : goal.returns
-returns c = clear_as c.requires

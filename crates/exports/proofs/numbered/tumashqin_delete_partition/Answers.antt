@@ -1,6 +1,0 @@
--- `exports::numbered::tumashqin_delete_partition` meets its contract. What the kernel's call answers is packed. Assumes nothing.
-use Rattle.exports.proofs.Replies.{packs}
-use Rattle.exports.proofs.numbered.tumashqin_delete_partition.Goals as goal
-
-pub returns : goal.returns
-returns c = packs c.pack.ensures c.delete_partition.ensures

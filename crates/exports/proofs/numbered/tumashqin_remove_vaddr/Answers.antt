@@ -1,6 +1,0 @@
--- `exports::numbered::tumashqin_remove_vaddr` meets its contract. What the kernel's call answers is packed. Assumes nothing.
-use Rattle.exports.proofs.Replies.{packs}
-use Rattle.exports.proofs.numbered.tumashqin_remove_vaddr.Goals as goal
-
-pub returns : goal.returns
-returns c = packs c.pack.ensures c.remove_vaddr.ensures

@@ -1,8 +1,0 @@
--- `own_pages::own::list_at` meets its contract. Assumes nothing.
-use Rattle.own_pages.proofs.Laws.Indices.{word_by_index}
-use Rattle.own_pages.proofs.own.list_at.Goals as goal
-
-pub returns : goal.returns
-returns c =
-    let s = c.args in
-    word_by_index s.b s.m.now s.i c.read.ensures c.index.ensures.0 c.requires.named.at_list
