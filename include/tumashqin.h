@@ -11,8 +11,8 @@
  * Threads. One call at a time on the same words: while a call runs, no other thread writes its slices, nor reads those that it writes.
  * Calls on different memories are independent.
  *
- * Stack. No call takes 4 KiB. The most measured is 3,272 bytes, by delete_partition on a tree eight levels deep, so that 824 are left; a level less takes
- * 192 bytes less. This was measured for every call at every depth, at both editions and on damaged memory (tests/bench), and is not proved.
+ * Stack. No call takes 4 KiB. The most measured is 3,544 bytes, by delete_partition on a tree eight levels deep, so that 552 are left; a level less takes
+ * 224 bytes less. This was measured for every call at every depth, at both editions and on damaged memory (tests/bench), and is not proved.
  *
  * Memory. Format chooses the edition: pages of 256 bytes (64 words), 16 to 256 of them, and addresses below 2^20; or pages of 4,096 bytes (1,024 words), 16
  * to 4,096 of them, and any 32-bit address. The memory's header names it, and every other call goes by that; what is said of 256 bytes below is said of 4,096

@@ -4,7 +4,7 @@
  * the archive, crates/block_exports/out/libblock_exports.a, for x86-64. It calls memcpy and memset of the C library and nothing else. What tumashqin.h says
  * of slices and threads holds here too; the archive of that header is not needed, unless its functions are called.
  *
- * Stack. No call takes 4 KiB. The most measured is 2,920 bytes, by delete; it is the same on every tree, since no function calls itself. This was measured
+ * Stack. No call takes 4 KiB. The most measured is 2,984 bytes, by delete; it is the same on every tree, since no function calls itself. This was measured
  * for every call on trees of several shapes and on damaged memory (tests/bench), and is not proved.
  *
  * Memory. TUMASHQIN_BLOCK_KIB_WORDS words for each KiB, and each whole number of KiB from 16 to 64 is permitted. Byte x is in word x / 4, the lowest byte

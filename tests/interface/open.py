@@ -21,7 +21,7 @@ def heads(text):
 
 
 def types(text):
-    return set(re.findall(r'^pub (?:enum|struct|const) (\w+)', text, re.M))
+    return set(re.findall(r'^pub (?:enum|struct|const|type) (\w+)', text, re.M))
 
 
 def offered(files):
@@ -35,6 +35,15 @@ def offered(files):
     return sorted(set(names))
 
 
+def handed_on(root, crate, name):
+    """The sources that have what a crate offers under a name: its own, or those of the crate whose item it uses on."""
+    files = sources(root, crate)
+    for module, used in re.findall(r'^pub use (\w+)::(\w+|\{[^}]*\});', files['lib'], re.M):
+        if name in re.findall(r'\w+', used) and module not in files:
+            return handed_on(root, module, name)
+    return '\n'.join(files.values())
+
+
 def main():
     root = sys.argv[1] if len(sys.argv) > 1 else os.path.join(os.path.dirname(os.path.abspath(__file__)), '..', '..')
     wrong = 0
@@ -43,7 +52,7 @@ def main():
         for module, name in offered(files):
             if crate == 'record' and name not in READER:
                 continue
-            text = files[module] if module in files else '\n'.join(sources(root, module).values())
+            text = files[module] if module in files else handed_on(root, module, name)
             head = heads(text).get(name, '' if name in types(text) else None)
             if head is None or re.search(r'^\s*requires\b', head, re.M):
                 print('%s::%s: %s' % (crate, name, 'not found' if head is None else 'it has a `requires`'))
