@@ -1,5 +1,7 @@
 #!/usr/bin/env python3
-"""Lists the places in crates/*/src of the eight points of docs/DESIGN-PASS.md: `python3 tools/places.py [POINT]` in the checkout, a line a place and the number last."""
+"""Lists the places in crates/*/src of the eight points of docs/DESIGN-PASS.md.
+
+`python3 tools/places.py [POINT]` in the checkout: a line a place, and the number last."""
 import collections
 import difflib
 import glob
