@@ -13,8 +13,8 @@ pub use blocks::{Block, block_in, block_of};
 pub use partitions::{current, entry, is_partition, is_root, level, number, parent, structure};
 pub use searches::{block_at, empty_structure, entry_of, free_number, free_structure};
 pub use sizes::{
-    DESCRIPTOR_WORDS, FIRST_NUMBER, MOST_ENABLED, MOST_STRUCTURES, SLOT_WORDS, STRUCTURE_WORDS,
-    first_byte, permitted, root_of,
+    DESCRIPTOR_WORDS, FIRST_NUMBER, MOST_ENABLED, MOST_STRUCTURES, NUMBERS_END, SLOT_WORDS,
+    STRUCTURE_WORDS, first_byte, permitted, root_of,
 };
 pub use slots::{
     child, end, field, holder, link, named, next, own, place, previous, rights, source, start,

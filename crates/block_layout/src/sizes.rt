@@ -15,8 +15,10 @@ pub const MOST_STRUCTURES: u32 = 16;
 // "at most 8 blocks enabled for a partition"
 pub const MOST_ENABLED: u32 = 8;
 
-// "numbers run from 8 to 135", eight in a structure
+// "numbers run from 8 to 135", eight in a structure: the first, and the number after the last
 pub const FIRST_NUMBER: u32 = 8;
+
+pub const NUMBERS_END: u32 = 136;
 
 // "W = 256K with K from 16 to 64"
 #[tactic(auto, unfolding(block_memory::specs::Geometry::permitted))]

@@ -1,7 +1,7 @@
 // The verdict of a memory, and its start-up record, written and read: a record of 76 bytes, and one with a byte too few.
 use std::io;
 use std::io::Write;
-use stdio::{hash, print_refusal, print_verdict};
+use stdio::{hash_bytes, print_refusal, print_verdict};
 
 fn print_number<W: Write>(output: &mut W, x: u32) -> io::Result<()> {
     write!(output, " {x}")
@@ -12,7 +12,7 @@ fn print_revision<W: Write>(output: &mut W, bytes: &[u8]) -> io::Result<()> {
     let part = record::revision(bytes);
     let length = part.len();
     write!(output, " {length}")?;
-    print_number(output, hash(part.iter().map(|byte| u32::from(*byte))))
+    print_number(output, hash_bytes(part))
 }
 
 // What the writer refused, what the reader refuses, begin, end and revision. No two bytes of the revision are equal.

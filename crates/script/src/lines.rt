@@ -2,6 +2,7 @@
 ghost use Rattle.std.specs.Prelude.{◌≡◌, ◌+◌, ◌≤◌, length};
 ghost use Rattle.rules.specs.Replay.{line, bad_script};
 ghost use Rattle.answers.specs.Said.{said};
+ghost use Rattle.common.specs.Packed;
 ghost use Rattle.script.specs.Lines.{Put, first_line};
 
 use crate::digits::{put, put_decimal};
@@ -29,17 +30,25 @@ pub fn put_first_line(b: IndexWidth, n: u32, out: &mut [u8]) -> usize
     put(out, r, b"\n")
 }
 
-// The line of record k, whose call was answered by a: its place, " ok " and a word or " no " and a refusal's number.
-pub fn put_answer(out: &mut [u8], at: usize, k: u32, a: Answer) -> usize
+// The line of record k: its place, " ok " and a word or " no " and a refusal's number, of whatever kernel.
+pub fn put_line(out: &mut [u8], at: usize, k: u32, a: Result<u32, u32>) -> usize
     requires { at + 25 ≤ length out.old }
-    ensures { Put out.old out.new at result (line k (said a)) × (result ≤ at + 25) }
+    ensures { Put out.old out.new at result (line k (Packed.said (λ n. n) a)) × (result ≤ at + 25) }
 {
     let (word, x) = match a {
         Ok(x) => (b" ok ", x),
-        Err(refusal) => (b" no ", refusal.number()),
+        Err(n) => (b" no ", n),
     };
     let p = put_decimal(out, at, k);
     let q = put(out, p, word);
     let r = put_decimal(out, q, x);
     put(out, r, b"\n")
+}
+
+// The line of record k, whose call was answered by a.
+pub fn put_answer(out: &mut [u8], at: usize, k: u32, a: Answer) -> usize
+    requires { at + 25 ≤ length out.old }
+    ensures { Put out.old out.new at result (line k (said a)) × (result ≤ at + 25) }
+{
+    put_line(out, at, k, a.map_err(|refusal| refusal.number()))
 }

@@ -20,3 +20,10 @@ pub fn hash<I: Iterator<Item = u32>>(words: I) -> u32
 {
     words.fold(2166136261, mixed)
 }
+
+// The hash of bytes.
+pub fn hash_bytes(bytes: &[u8]) -> u32
+    ensures { result ≡ hashed bytes.now }
+{
+    hash(bytes.iter().map(|byte| u32::from(*byte)))
+}

@@ -1,4 +1,4 @@
--- `script::lines::put_answer` meets its contract. The four parts of the line stand one behind the other. Assumes nothing.
+-- `script::lines::put_line` meets its contract. The four parts of the line stand one behind the other. Assumes nothing.
 use denote.Ref.{Bor}
 use mathlib.Core.Path.{◌≡◌, refl, sym, ap, ◌∙◌}
 use mathlib.Core.List.{List, [], ◌∷◌, ◌++◌}
@@ -6,18 +6,13 @@ use Prim.Native.Nat.{ℕ}
 use lib.ListN.{length}
 use native.Mathlib.Omega.{arith}
 use Rattle.rules.specs.Replay.{decimal, line}
-use Rattle.rules.specs.Row as Row
 use Rattle.std.specs.Prelude.{Result}
-use Rattle.answers.specs.declared.refusals.Refusal.{Refusal}
-use Rattle.answers.specs.Said.{said}
+use Rattle.common.specs.Packed.{said}
 use Rattle.script.proofs.Puts.{put_then, put_same}
 use Rattle.script.proofs.Lengths.{line-most}
 use Rattle.script.proofs.Decimals.{decimal-most}
-use Rattle.script.proofs.lines.put_answer.Goals as goal
-use Rattle.script.proofs.lines.put_answer.Goals.{in-Ok, in-Err}
-
-abbrev Answer : Type 0
-Answer = Result ℕ Refusal
+use Rattle.script.proofs.lines.put_line.Goals as goal
+use Rattle.script.proofs.lines.put_line.Goals.{in-Ok, in-Err}
 
 -- " ok " and a word, or " no " and a number
 abbrev Told : Type 0
@@ -51,12 +46,9 @@ pub returns : goal.returns
 unfolding line
 returns c =
     let s = c.args in
-    let e : decimal s.k ++ c.match-a.x.0.now ++ decimal c.match-a.x.1 ++ (10 ∷ []) ≡ line s.k (said s.a) = elim c.match-a.branch [
-      | in-Ok w ↦ told s.k _ _ w.x-is ∙ ap (λ (a : Answer). line s.k (said a)) (sym w.in-Ok.is)
-      | in-Err w ↦
-          told s.k _ _ w.x-is
-          ∙ ap (λ (n : ℕ). line s.k (Row.no n)) w.number.ensures
-          ∙ ap (λ (a : Answer). line s.k (said a)) (sym w.in-Err.is)
+    let e : decimal s.k ++ c.match-a.x.0.now ++ decimal c.match-a.x.1 ++ (10 ∷ []) ≡ line s.k (said (λ n. n) s.a) = elim c.match-a.branch [
+      | in-Ok w ↦ told s.k _ _ w.x-is ∙ ap (λ (a : Result ℕ ℕ). line s.k (said (λ n. n) a)) (sym w.in-Ok.is)
+      | in-Err w ↦ told s.k _ _ w.x-is ∙ ap (λ (a : Result ℕ ℕ). line s.k (said (λ n. n) a)) (sym w.in-Err.is)
     ] in
     let p = put_same e (put_then (put_then (put_then c.put_decimal-p.ensures c.put-q.ensures) c.put_decimal-r.ensures) c.put.ensures) in
-    (p, omega (arith, p.next, line-most s.k (said s.a)))
+    (p, omega (arith, p.next, line-most s.k (said (λ n. n) s.a)))
