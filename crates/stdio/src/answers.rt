@@ -41,7 +41,7 @@ pub fn print_part<W: Write>(output: &mut W, answers: &[u64], m: &[u32]) -> io::R
     ensures { OnOk result (Appends (W.contents output.old) (W.contents output.new) (part_lines answers.now m.now)) }
 {
     print_answers(output, answers)?;
-    let left = hash(m.iter().copied());
+    let left = hash(m);
     writeln!(output, "{left}")
 }
 

@@ -13,7 +13,7 @@ fn mixed(h: u32, x: u32) -> u32
 }
 
 // The hash of the words that `words` yields.
-pub fn hash<I: Iterator<Item = u32>>(words: I) -> u32
+pub fn hash_all<I: Iterator<Item = u32>>(words: I) -> u32
     requires can { I.can_next words }
     requires finite { IsFinite (I.remaining words) }
     ensures { WholeRun I.next_gives words (λ p. result ≡ hashed p.items) }
@@ -21,9 +21,16 @@ pub fn hash<I: Iterator<Item = u32>>(words: I) -> u32
     words.fold(2166136261, mixed)
 }
 
+// The hash of a memory's words.
+pub fn hash(m: &[u32]) -> u32
+    ensures { result ≡ hashed m.now }
+{
+    hash_all(m.iter().copied())
+}
+
 // The hash of bytes.
 pub fn hash_bytes(bytes: &[u8]) -> u32
     ensures { result ≡ hashed bytes.now }
 {
-    hash(bytes.iter().map(|byte| u32::from(*byte)))
+    hash_all(bytes.iter().map(|byte| u32::from(*byte)))
 }

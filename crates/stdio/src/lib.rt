@@ -7,6 +7,6 @@ mod input;
 mod sequences;
 
 pub use answers::{NONE, print_part, print_refusal, print_verdict};
-pub use hashing::{hash, hash_bytes};
+pub use hashing::{hash, hash_all, hash_bytes};
 pub use input::{next_count, next_part, next_word, read_full};
 pub use sequences::run_memories;
